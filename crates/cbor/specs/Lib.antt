@@ -1,0 +1,4 @@
+pub mod Encoding
+pub mod Prefix
+pub mod Reading
+pub mod Writing

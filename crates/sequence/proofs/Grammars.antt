@@ -1,0 +1,84 @@
+-- Tokens one after the other, by a grammar.
+use mathlib.Core.Path.{_≡_, refl, sym, ap, subst, _∙_}
+use mathlib.Core.Bool.{true}
+use mathlib.Core.List.{List, [], _∷_, _++_, append-assoc}
+use Prim.Native.Nat.{ℕ, _+_, _-_, _<_, _≤_}
+use native.Mathlib.Omega.{arith}
+use lib.ListN.{length, take, drop, length-append}
+use Rattle.std.proofs.shelf.Lists.{append-nil, take-append-le, drop-append-le}
+use Rattle.cbor.specs.Encoding.{all-bytes}
+use Rattle.cbor.specs.Prefix.{Any, Prefix-free, Then, Stops, Stops-at, Stands-at}
+use Rattle.cbor.proofs.Numbers.{bytes-append}
+use Rattle.cbor.proofs.Words.{free-two, stops-same}
+use Rattle.cbor.proofs.Places.{part-more, part-length, stops-at-first, stops-at-later}
+use Rattle.sequence.specs.Token.{Token, num, str, token-bytes, spell, Shape, Suits, Token-of}
+use Rattle.sequence.specs.Grammar.{Grammar, next, Takes, Completes, Completable}
+use Rattle.sequence.specs.Reading.{Token-at}
+use Rattle.sequence.proofs.Tokens.{token-free, token-bytes-bytes}
+
+pub spell-append : (ts us : List Token) → spell (ts ++ us) ≡ spell ts ++ spell us
+unfolding spell
+spell-append [] us = refl
+spell-append (t ∷ ts) us = ap (λ x. token-bytes t ++ x) (spell-append ts us) ∙ sym (append-assoc (token-bytes t) (spell ts) (spell us))
+
+module _ {S : Type 0} (G : Grammar S) where
+  pub takes-append : (ss mid rest : List S) (ts us : List Token) → Takes G ss ts mid → Takes G mid us rest → Takes G ss (ts ++ us) rest
+  unfolding Takes
+  takes-append ss mid rest [] us f g = subst (λ x. Takes G x us rest) (sym f) g
+  takes-append [] mid rest (t ∷ ts) us f g = absurd f
+  takes-append (s ∷ ss) mid rest (t ∷ ts) us (a, f) g = (a, takes-append (next G s t ++ ss) mid rest ts us f g)
+
+  -- in one way
+  spell-free : (ss : List S) (ts us : List Token) (r : List ℕ) → Takes G ss ts [] → Takes G ss us [] → spell ts ++ r ≡ spell us → (ts ≡ us) × (r ≡ [])
+  unfolding Takes spell
+  spell-free [] [] [] r f g e = (refl, e)
+  spell-free [] [] (u ∷ us) r f g e = absurd g
+  spell-free [] (t ∷ ts) us r f g e = absurd f
+  spell-free (s ∷ ss) [] us r f g e = absurd (let z : _≡_ {A = ℕ} 0 1 = cc in omega arith)
+  spell-free (s ∷ ss) (t ∷ ts) [] r f g e = absurd (let z : _≡_ {A = ℕ} 0 1 = cc in omega arith)
+  spell-free (s ∷ ss) (t ∷ ts) (u ∷ us) r (a, f) (b, g) e =
+      let z = free-two (Token-of (G .shape s)) (token-free (G .shape s)) t u (token-bytes t) (token-bytes u) (spell ts ++ r) (spell us) (refl, a) (refl, b) (sym (append-assoc (token-bytes t) (spell ts) r) ∙ e) in
+      let g′ = subst (λ x. Takes G (next G s x ++ ss) us []) (sym (z .0)) g in
+      let y = spell-free (next G s t ++ ss) ts us r f g′ (z .2) in
+      let p = z .0 in
+      let q = y .0 in
+      ((let c : t ∷ ts ≡ u ∷ us = cc in c), y .1)
+
+  pub completes-free : (ss : List S) → Prefix-free (Completes G ss)
+  completes-free ss ts us u r (a, f) (b, g) = spell-free ss ts us r f g (ap (λ x. x ++ r) (sym a) ∙ b)
+
+  pub spell-bytes : (ss rest : List S) (ts : List Token) → Takes G ss ts rest → all-bytes (spell ts) ≡ true
+  unfolding Takes spell all-bytes
+  spell-bytes ss rest [] f = refl
+  spell-bytes [] rest (t ∷ ts) f = absurd f
+  spell-bytes (s ∷ ss) rest (t ∷ ts) (a, f) = bytes-append (token-bytes t) (spell ts) (token-bytes-bytes (G .shape s) t a) (spell-bytes (next G s t ++ ss) rest ts f)
+
+  -- a token, and then what is pending after it
+  abbrev Rest : S → List S → Token → List ℕ → Type 0
+  Rest s ss t = Any (Completes G (next G s t ++ ss))
+
+  open-one : (s : S) (ss : List S) (w : List ℕ) → Any (Completes G (s ∷ ss)) w → Then (Token-of (G .shape s)) (Rest s ss) w
+  unfolding Takes spell
+  open-one s ss w ([], (e, f)) = absurd (let z : _≡_ {A = ℕ} 0 1 = cc in omega arith)
+  open-one s ss w (t ∷ ts, (e, (a, f))) = (t, token-bytes t, spell ts, (refl, a), (ts, (refl, f)), e)
+
+  shut-one : (s : S) (ss : List S) (w : List ℕ) → Then (Token-of (G .shape s)) (Rest s ss) w → Any (Completes G (s ∷ ss)) w
+  unfolding Takes spell
+  shut-one s ss w (t, u, v, (a, b), (ts, (c, f)), e) = (t ∷ ts, (e ∙ (let z : u ++ v ≡ token-bytes t ++ spell ts = cc in z), (b, f)))
+
+  stops-shut : (s : S) (ss : List S) (bs : List ℕ) (at p n : ℕ) → Stops-at (Then (Token-of (G .shape s)) (Rest s ss)) bs at p n → Stops-at (Any (Completes G (s ∷ ss))) bs at p n
+  stops-shut s ss bs at p n (l, h) = (l, stops-same (Then (Token-of (G .shape s)) (Rest s ss)) (Any (Completes G (s ∷ ss))) (shut-one s ss) (open-one s ss) (drop at bs) (p - at) (n - at) h)
+
+  module _ (can : Completable G) where
+    completed : (ss : List S) → (ts : List Token) × Takes G ss ts []
+    unfolding Takes
+    completed [] = ([], refl)
+    completed (s ∷ ss) = let (ts, f) = can s in let (us, g) = completed ss in (ts ++ us, takes-append (s ∷ ss) ss [] ts us (f ss) g)
+
+    -- bytes cease to begin what is pending in its first token
+    pub stop-first : (s : S) (ss : List S) (bs : List ℕ) (at p n : ℕ) → Stops-at (Any (Token-of (G .shape s))) bs at p n → Stops-at (Any (Completes G (s ∷ ss))) bs at p n
+    stop-first s ss bs at p n h = stops-shut s ss bs at p n (stops-at-first (Token-of (G .shape s)) (Rest s ss) (token-free (G .shape s)) (λ t u a. let (ts, f) = completed (next G s t ++ ss) in (spell ts, (ts, (refl, f)))) bs at p n h)
+
+  -- or after it
+  pub stop-later : (s : S) (ss : List S) (t : Token) (bs : List ℕ) (at mid p n : ℕ) → Stands-at (Token-of (G .shape s) t) bs at mid → Stops-at (Any (Completes G (next G s t ++ ss))) bs mid p n → Stops-at (Any (Completes G (s ∷ ss))) bs at p n
+  stop-later s ss t bs at mid p n a h = stops-shut s ss bs at p n (stops-at-later (Token-of (G .shape s)) (Rest s ss) (token-free (G .shape s)) t bs at mid p n a h)

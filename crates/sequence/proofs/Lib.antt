@@ -1,0 +1,3 @@
+pub mod Tokens
+pub mod Grammars
+pub mod Sizes

@@ -1,0 +1,4 @@
+pub mod Token
+pub mod Grammar
+pub mod Reading
+pub mod Writing
