@@ -6,7 +6,7 @@ use Prim.Native.Nat.{ℕ, zero, suc, _+_, _*_, _-_, _/_, _%_, _<_, _≤_}
 use native.Mathlib.Omega.{arith}
 use lib.ListN.{length, getD, take, drop, length-append, take-append-drop}
 use lib.Seq.{take-add}
-use Rattle.std.proofs.shelf.Lists.{drop-more, drop-all, length-drop, length-take-le, drop-drop, take-take}
+use Rattle.std.proofs.shelf.Lists.{drop-more, drop-all, length-drop, length-take-le, drop-drop, take-take, take-at, drop-at}
 use Rattle.std.proofs.shelf.Tests.{lt-ltb}
 use Rattle.std.specs.declared.result.Result.the-variants.{Ok, Err}
 use Rattle.cbor.specs.declared.reading.Form.{Form}
@@ -30,6 +30,20 @@ part-more bs at mid end h k =
 
 pub part-length : (bs : List ℕ) (at end : ℕ) → at ≤ end → end ≤ length bs → length (take (end - at) (drop at bs)) ≡ end - at
 part-length bs at end h k = length-take-le (end - at) (drop at bs) (rw (length-drop at bs) (omega arith))
+
+-- two strings one after the other, from a place to another
+pub part-join : (bs u v : List ℕ) (at mid end : ℕ) → at ≤ mid → mid ≤ end → take (mid - at) (drop at bs) ≡ u → take (end - mid) (drop mid bs) ≡ v → take (end - at) (drop at bs) ≡ u ++ v
+part-join bs u v at mid end h k a b = part-more bs at mid end h k ∙ (λ i. a i ++ b i)
+
+pub part-split : (bs u v : List ℕ) (at end : ℕ) → at ≤ end → end ≤ length bs → take (end - at) (drop at bs) ≡ u ++ v → (at + length u ≤ end) × (take (at + length u - at) (drop at bs) ≡ u) × (take (end - (at + length u)) (drop (at + length u) bs) ≡ v)
+part-split bs u v at end h k e =
+    let l : end - at ≡ length u + length v = sym (part-length bs at end h k) ∙ ap length e ∙ length-append u v in
+    let m : at + length u ≤ end = omega arith in
+    let f = sym (part-more bs at (at + length u) end (omega arith) m) ∙ e in
+    let n : length (take (at + length u - at) (drop at bs)) ≡ length u = part-length bs at (at + length u) (omega arith) (omega arith) ∙ (let z : at + length u - at ≡ length u = omega arith in z) in
+    let a : take (at + length u - at) (drop at bs) ≡ u = sym (take-at (take (at + length u - at) (drop at bs)) (take (end - (at + length u)) (drop (at + length u) bs)) (length u) n) ∙ ap (take (length u)) f ∙ take-at u v (length u) refl in
+    let b : take (end - (at + length u)) (drop (at + length u) bs) ≡ v = sym (drop-at (take (at + length u - at) (drop at bs)) (take (end - (at + length u)) (drop (at + length u) bs)) (length u) n) ∙ ap (drop (length u)) f ∙ drop-at u v (length u) refl in
+    (m, a, b)
 
 module _ {I : Type 0} (A B : I → List ℕ → Type 0) (free : Prefix-free A) where
   pub stops-at-first : ((i : I) (u : List ℕ) → A i u → (v : List ℕ) × B i v) → (bs : List ℕ) (at p n : ℕ) → Stops-at (Any A) bs at p n → Stops-at (Then A B) bs at p n

@@ -10,7 +10,7 @@ use Rattle.cbor.specs.Encoding.{all-bytes}
 use Rattle.cbor.specs.Prefix.{Any, Prefix-free, Then, Stops, Stops-at, Stands-at}
 use Rattle.cbor.proofs.Numbers.{bytes-append}
 use Rattle.cbor.proofs.Words.{free-two, stops-same}
-use Rattle.cbor.proofs.Places.{part-more, part-length, stops-at-first, stops-at-later}
+use Rattle.cbor.proofs.Places.{part-split, part-length, stops-at-first, stops-at-later}
 use Rattle.sequence.specs.Token.{Token, num, str, token-bytes, spell, Shape, Suits, Token-of}
 use Rattle.sequence.specs.Grammar.{Grammar, next, Takes, Completes, Completable}
 use Rattle.sequence.specs.Reading.{Token-at}
@@ -82,3 +82,15 @@ module _ {S : Type 0} (G : Grammar S) where
   -- or after it
   pub stop-later : (s : S) (ss : List S) (t : Token) (bs : List ℕ) (at mid p n : ℕ) → Stands-at (Token-of (G .shape s) t) bs at mid → Stops-at (Any (Completes G (next G s t ++ ss))) bs mid p n → Stops-at (Any (Completes G (s ∷ ss))) bs at p n
   stop-later s ss t bs at mid p n a h = stops-shut s ss bs at p n (stops-at-later (Token-of (G .shape s)) (Rest s ss) (token-free (G .shape s)) t bs at mid p n a h)
+
+  -- or after several
+  pub stop-after : (ss rest : List S) (ts : List Token) (bs : List ℕ) (at end p n : ℕ) → Takes G ss ts rest → Stands-at (λ w. w ≡ spell ts) bs at end → Stops-at (Any (Completes G rest)) bs end p n → Stops-at (Any (Completes G ss)) bs at p n
+  unfolding Takes spell
+  stop-after ss rest [] bs at end p n f (h, k, e) s =
+      let z : at ≡ end = (let y : end - at ≡ 0 = sym (part-length bs at end h k) ∙ ap length e in omega arith) in
+      subst (λ x. Stops-at (Any (Completes G ss)) bs x p n) (sym z) (subst (λ x. Stops-at (Any (Completes G x)) bs end p n) (sym f) s)
+  stop-after [] rest (t ∷ ts) bs at end p n f h s = absurd f
+  stop-after (x ∷ ss) rest (t ∷ ts) bs at end p n (a, f) (h, k, e) s =
+      let mid = at + length (token-bytes t) in
+      let (m, u, v) = part-split bs (token-bytes t) (spell ts) at end h k e in
+      stop-later x ss t bs at mid p n (omega arith, omega arith, (u, a)) (stop-after (next G x t ++ ss) rest ts bs mid end p n f (m, k, v) s)

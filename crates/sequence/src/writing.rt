@@ -35,7 +35,8 @@ pub fn tokens_size(tokens: &[Token<'_>]) -> Option<usize>
     Some(size)
 }
 
-fn write_token(out: &mut [u8], at: usize, token: Token<'_>) -> Option<usize>
+// A token at a place, or None and nothing changed where there is no room for it.
+pub fn write_token(out: &mut [u8], at: usize, token: Token<'_>) -> Option<usize>
     ensures { λ r. ⌜ Writes (now (out .entry)) at (token-bytes (token-of (token .entry))) (now (out .exit)) r ⌝ }
 {
     match token {

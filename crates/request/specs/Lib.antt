@@ -1,0 +1,5 @@
+pub mod Asked
+pub mod Grammar
+pub mod Reading
+pub mod Writing
+pub mod Answers
