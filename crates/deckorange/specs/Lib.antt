@@ -1,0 +1,3 @@
+pub mod Commands
+pub mod Size
+pub mod Unread
