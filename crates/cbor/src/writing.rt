@@ -57,16 +57,12 @@ fn head_bytes(major: Major, argument: u64) -> HeadBytes
 pub fn head_size(argument: u64) -> usize
     ensures { λ r. ⌜ ((m : ℕ) → r ≡ length (head m argument)) ⌝ }
 {
-    if argument < 24 {
-        1
-    } else if argument < 256 {
-        2
-    } else if argument < 65536 {
-        3
-    } else if argument < 4294967296 {
-        5
-    } else {
-        9
+    match argument {
+        0..=23 => 1,
+        24..=255 => 2,
+        256..=65535 => 3,
+        65536..=4294967295 => 5,
+        _ => 9,
     }
 }
 

@@ -8,6 +8,7 @@ use answer::answer;
 use request::answers::AnswerDisplay;
 use std::alloc::Global;
 use std::error::AnyError;
+use std::io::BufRead;
 use std::io::BufReader;
 
 fn main(rt: LibcRuntime) -> Result<(), AnyError> {

@@ -4,14 +4,14 @@ use native.Mathlib.Omega.{arith}
 use Rattle.cbor.proofs.Writes.{head-length}
 use Rattle.cbor.proofs.writing.head_size.Needs as need
 
-pub returns-then-argument-lt256 : need.returns-then-argument-lt256
-returns-then-argument-lt256 c = λ m. head-length m (c .args .argument) 24 1 (inr (inl (omega arith, omega arith, refl, refl)))
+pub returns-in-24-to-255 : need.returns-in-24-to-255
+returns-in-24-to-255 c = λ m. head-length m (c .args .argument) 24 1 (inr (inl (omega arith, omega arith, refl, refl)))
 
-pub returns-then-argument-lt65536 : need.returns-then-argument-lt65536
-returns-then-argument-lt65536 c = λ m. head-length m (c .args .argument) 25 2 (inr (inr (inl (omega arith, omega arith, refl, refl))))
+pub returns-in-256-to-65535 : need.returns-in-256-to-65535
+returns-in-256-to-65535 c = λ m. head-length m (c .args .argument) 25 2 (inr (inr (inl (omega arith, omega arith, refl, refl))))
 
-pub returns-then-argument-lt4294967296 : need.returns-then-argument-lt4294967296
-returns-then-argument-lt4294967296 c = λ m. head-length m (c .args .argument) 26 4 (inr (inr (inr (inl (omega arith, omega arith, refl, refl)))))
+pub returns-in-65536-to-4294967295 : need.returns-in-65536-to-4294967295
+returns-in-65536-to-4294967295 c = λ m. head-length m (c .args .argument) 26 4 (inr (inr (inr (inl (omega arith, omega arith, refl, refl)))))
 
-pub returns-else-argument-lt4294967296 : need.returns-else-argument-lt4294967296
-returns-else-argument-lt4294967296 c = λ m. head-length m (c .args .argument) 27 8 (inr (inr (inr (inr (omega arith, omega arith, refl, refl)))))
+pub returns-in-rest : need.returns-in-rest
+returns-in-rest c = λ m. head-length m (c .args .argument) 27 8 (inr (inr (inr (inr (omega arith, omega arith, refl, refl)))))
