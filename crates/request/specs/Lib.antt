@@ -3,3 +3,4 @@ pub mod Grammar
 pub mod Reading
 pub mod Writing
 pub mod Answers
+pub mod Laws
