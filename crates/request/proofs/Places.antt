@@ -5,46 +5,24 @@ use Prim.Native.Nat.{ℕ, zero, suc, _+_, _-_, _<_, _≤_}
 use native.Mathlib.Omega.{arith}
 use lib.ListN.{length, take, drop, length-append, take-append-drop}
 use denote.Ref.{RefT, now}
-use Rattle.std.proofs.shelf.Lists.{append-nil}
 use Rattle.std.specs.declared.result.Result.{Result}
 use Rattle.std.specs.declared.result.Result.the-variants.{Ok, Err}
 use Rattle.cbor.specs.declared.reading.Stop.{Stop}
 use Rattle.cbor.specs.Prefix.{Any, Stops, Stands-at}
 use Rattle.cbor.specs.Reading.{Stopped}
-use Rattle.cbor.proofs.Places.{part-join, part-length}
+use Rattle.cbor.proofs.Places.{part-length}
 use Rattle.sequence.specs.Token.{Token, num, str, token-bytes, spell, Shape, opcode, number, string, Word, Token-of}
 use Rattle.sequence.specs.Grammar.{next, Takes, Completes}
-use Rattle.sequence.specs.Reading.{Token-at}
-use Rattle.sequence.proofs.Tokens.{token-some}
-use Rattle.sequence.proofs.Grammars.{spell-append, stop-first, stop-later, stop-after}
+use Rattle.sequence.specs.Reading.{Token-at, Spelled-at, Pending-stops}
+use Rattle.sequence.proofs.Grammars.{spelled-one, spelled-append, stop-first, stop-later, stop-after}
 use Rattle.request.specs.declared.reading.Path.{Path}
 use Rattle.request.specs.declared.reading.Request.{Request}
 use Rattle.request.specs.declared.reading.Request.the-variants.{Check, Find}
 use Rattle.request.specs.declared.reading.Taken.{Taken}
 use Rattle.request.specs.Asked.{Step, index, key, content, Asked, check, find, step-tokens, path-tokens, tokens, write, Writable-step, Writable-path, Writable, Is-request}
 use Rattle.request.specs.Grammar.{Sort, a-request, a-path, a-step, a-number, a-string, many, shape, after-request, requests}
-use Rattle.request.specs.Reading.{Means, Spelled-at, Pending-stops, Path-at, Rest-at, Request-at, Is-read, Reads-back}
+use Rattle.request.specs.Reading.{Means, Path-at, Rest-at, Request-at, Is-read, Reads-back}
 use Rattle.request.proofs.Requests.{completable, step-takes, path-takes, request-takes, stops-request, one-way}
-
--- PENDING
-
-pub first-stops : (s : Sort) (ss : List Sort) (bs : List ℕ) (at : ℕ) (stop : Stop) → Stopped (Any (Token-of (shape s))) bs at stop → Pending-stops (s ∷ ss) bs at stop
-first-stops s ss bs at stop h = stop-first requests completable s ss bs at (stop .place) (stop .least) h
-
-pub later-stops : (s : Sort) (ss : List Sort) (t : Token) (bs : List ℕ) (at mid : ℕ) (stop : Stop) → Token-at (shape s) t bs at mid → Pending-stops (next requests s t ++ ss) bs mid stop → Pending-stops (s ∷ ss) bs at stop
-later-stops s ss t bs at mid stop (h, l) p = stop-later requests s ss t bs at mid (stop .place) (stop .least) h p
-
--- TOKENS ONE AFTER THE OTHER
-
-pub spelled-one : (s : Shape) (t : Token) (bs : List ℕ) (at end : ℕ) → Token-at s t bs at end → Spelled-at (t ∷ []) bs at end
-unfolding spell
-spelled-one s t bs at end ((h, k, (e, w)), l) = (h, k, e ∙ sym (append-nil (token-bytes t)))
-
-pub spelled-append : (ts us : List Token) (bs : List ℕ) (at mid end : ℕ) → Spelled-at ts bs at mid → Spelled-at us bs mid end → Spelled-at (ts ++ us) bs at end
-spelled-append ts us bs at mid end (h, k, e) (i, j, f) = (omega arith, j, part-join bs (spell ts) (spell us) at mid end h i e f ∙ sym (spell-append ts us))
-
-pub spelled-two : (s r : Shape) (t u : Token) (bs : List ℕ) (at mid end : ℕ) → Token-at s t bs at mid → Token-at r u bs mid end → Spelled-at (t ∷ u ∷ []) bs at end
-spelled-two s r t u bs at mid end a b = spelled-append (t ∷ []) (u ∷ []) bs at mid end (spelled-one s t bs at mid a) (spelled-one r u bs mid end b)
 
 -- PATHS
 
@@ -55,13 +33,13 @@ path-none bs at h = ([], refl, tt, (omega arith, h, ap (λ n. take n (drop at bs
 one-more : (bs : List ℕ) (at mid n : ℕ) (p : Step) (r : Result ℕ Stop) → Writable-step p → Spelled-at (step-tokens p) bs at mid → Path-at bs mid n r → Path-at bs at (suc n) r
 unfolding path-tokens Writable-path many
 one-more bs at mid n p (Ok end) w s (ps, l, v, t) = (p ∷ ps, ap suc l, (w, v), spelled-append (step-tokens p) (path-tokens ps) bs at mid end s t)
-one-more bs at mid n p (Err stop) w s f = λ ss. stop-after requests (a-step ∷ (many n a-step ++ ss)) (many n a-step ++ ss) (step-tokens p) bs at mid (stop .place) (stop .least) (step-takes p (many n a-step ++ ss) w) s (f ss)
+one-more bs at mid n p (Err stop) w s f = λ ss. stop-after requests (a-step ∷ (many n a-step ++ ss)) (many n a-step ++ ss) (step-tokens p) bs at mid stop (step-takes p (many n a-step ++ ss) w) s (f ss)
 
 pub path-more : (bs : List ℕ) (at mid n : ℕ) (p : Step) (r : Result ℕ Stop) → 0 < n → Writable-step p → Spelled-at (step-tokens p) bs at mid → Path-at bs mid (n - 1) r → Path-at bs at n r
 path-more bs at mid zero p r z w s h = absurd (omega arith)
 path-more bs at mid (suc n) p r z w s h = one-more bs at mid n p r w s (subst (λ m. Path-at bs mid m r) (let y : suc n - 1 ≡ n = omega arith in y) h)
 
-pub path-stop : (bs : List ℕ) (at n : ℕ) (stop : Stop) → 0 < n → ((ss : List Sort) → Pending-stops (a-step ∷ ss) bs at stop) → Path-at bs at n (Err stop)
+pub path-stop : (bs : List ℕ) (at n : ℕ) (stop : Stop) → 0 < n → ((ss : List Sort) → Pending-stops requests (a-step ∷ ss) bs at stop) → Path-at bs at n (Err stop)
 unfolding many
 path-stop bs at zero stop z h = absurd (omega arith)
 path-stop bs at (suc n) stop z h = λ ss. h (many n a-step ++ ss)
@@ -76,26 +54,26 @@ find-there bs at mid from end n steps item e c (ps, l, w, p) t =
     let ts = num n ∷ (path-tokens ps ++ str (now item) ∷ []) in
     (find ps (now item), ts, (ps, (l, e ∙ p .2), refl), (w, (let z = c .0 .2 .1 in omega arith), t .0 .2 .1), ap (λ k. num 1 ∷ num k ∷ (path-tokens ps ++ str (now item) ∷ [])) l, spelled-append (num n ∷ []) (path-tokens ps ++ str (now item) ∷ []) bs at mid end (spelled-one number (num n) bs at mid c) (spelled-append (path-tokens ps) (str (now item) ∷ []) bs mid from end p (spelled-one string (str (now item)) bs from end t)))
 
-pub find-path-stops : (bs : List ℕ) (at mid n : ℕ) (stop : Stop) → Token-at number (num n) bs at mid → Path-at bs mid n (Err stop) → Pending-stops (after-request 1) bs at stop
-find-path-stops bs at mid n stop c p = later-stops a-path (a-string ∷ []) (num n) bs at mid stop c (p (a-string ∷ []))
+pub find-path-stops : (bs : List ℕ) (at mid n : ℕ) (stop : Stop) → Token-at number (num n) bs at mid → Path-at bs mid n (Err stop) → Pending-stops requests (after-request 1) bs at stop
+find-path-stops bs at mid n stop c p = stop-later requests a-path (a-string ∷ []) (num n) bs at mid stop (c .0) (p (a-string ∷ []))
 
-pub find-item-stops : (bs : List ℕ) (at mid from n : ℕ) (stop : Stop) → Token-at number (num n) bs at mid → Path-at bs mid n (Ok from) → Pending-stops (a-string ∷ []) bs from stop → Pending-stops (after-request 1) bs at stop
+pub find-item-stops : (bs : List ℕ) (at mid from n : ℕ) (stop : Stop) → Token-at number (num n) bs at mid → Path-at bs mid n (Ok from) → Pending-stops requests (a-string ∷ []) bs from stop → Pending-stops requests (after-request 1) bs at stop
 find-item-stops bs at mid from n stop c (ps, l, w, p) s =
-    later-stops a-path (a-string ∷ []) (num n) bs at mid stop c
-    (subst (λ k. Pending-stops (many k a-step ++ a-string ∷ []) bs mid stop) l (stop-after requests (many (length ps) a-step ++ a-string ∷ []) (a-string ∷ []) (path-tokens ps) bs mid from (stop .place) (stop .least) (path-takes ps (a-string ∷ []) w) p s))
+    stop-later requests a-path (a-string ∷ []) (num n) bs at mid stop (c .0)
+    (subst (λ k. Pending-stops requests (many k a-step ++ a-string ∷ []) bs mid stop) l (stop-after requests (many (length ps) a-step ++ a-string ∷ []) (a-string ∷ []) (path-tokens ps) bs mid from stop (path-takes ps (a-string ∷ []) w) p s))
 
 -- from their first byte
-from-start : (bs : List ℕ) (stop : Stop) → Pending-stops (a-request ∷ []) bs 0 stop → Request-at bs (Err stop)
+from-start : (bs : List ℕ) (stop : Stop) → Pending-stops requests (a-request ∷ []) bs 0 stop → Request-at bs (Err stop)
 from-start bs stop (h, s) = stops-request bs (stop .place) (stop .least) (let p : stop .place - 0 ≡ stop .place = omega arith in let n : stop .least - 0 ≡ stop .least = omega arith in subst (λ x. Stops (Any (Completes requests (a-request ∷ []))) bs x (stop .least)) p (subst (λ x. Stops (Any (Completes requests (a-request ∷ []))) bs (stop .place - 0) x) n s))
 
 pub no-request : (bs : List ℕ) (stop : Stop) → Stopped (Any (Token-of (shape a-request))) bs 0 stop → Request-at bs (Err stop)
-no-request bs stop h = from-start bs stop (first-stops a-request [] bs 0 stop h)
+no-request bs stop h = from-start bs stop (stop-first requests completable a-request [] bs 0 stop h)
 
 pub whole : (n : ℕ) (bs : List ℕ) (mid : ℕ) (r : Result Taken Stop) → Token-at (opcode 1) (num n) bs 0 mid → Rest-at n (next requests a-request (num n) ++ []) bs mid r → Request-at bs r
 whole n bs mid (Ok x) t (a, ts, m, w, e, p) =
     let q = spelled-append (num n ∷ []) ts bs 0 mid (x .took) (spelled-one (opcode 1) (num n) bs 0 mid t) p in
     (a, m, (ap (λ k. take k bs) (let z : x .took ≡ x .took - 0 = omega arith in z) ∙ q .2 ∙ ap spell (sym e), w), q .1)
-whole n bs mid (Err stop) t s = from-start bs stop (later-stops a-request [] (num n) bs 0 mid stop t s)
+whole n bs mid (Err stop) t s = from-start bs stop (stop-later requests a-request [] (num n) bs 0 mid stop (t .0) s)
 
 -- READ BACK
 

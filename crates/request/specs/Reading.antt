@@ -7,10 +7,9 @@ use denote.Ref.{now}
 use Rattle.std.specs.declared.result.Result.{Result}
 use Rattle.std.specs.declared.result.Result.the-variants.{Ok, Err}
 use Rattle.cbor.specs.declared.reading.Stop.{Stop}
-use Rattle.cbor.specs.Prefix.{Begins, Any, Stops, Stands-at}
-use Rattle.cbor.specs.Reading.{Stopped}
+use Rattle.cbor.specs.Prefix.{Any, Stops}
 use Rattle.sequence.specs.Token.{Token, num, spell}
-use Rattle.sequence.specs.Grammar.{Completes}
+use Rattle.sequence.specs.Reading.{Spelled-at, Pending-stops}
 use Rattle.request.specs.declared.reading.Step.{Step as Lent-step}
 use Rattle.request.specs.declared.reading.Step.the-variants.{Index, Key, Content}
 use Rattle.request.specs.declared.reading.Path.{Path}
@@ -36,26 +35,18 @@ abbrev pub Means : Request → Asked → Type 0
 Means (Check item) a = a ≡ check (now item)
 Means (Find path item) a = (ps : List Step) × Path-of path ps × (a ≡ find ps (now item))
 
--- tokens up to a place
-abbrev pub Spelled-at : List Token → List ℕ → ℕ → ℕ → Type 0
-Spelled-at ts bs at end = Stands-at (λ w. w ≡ spell ts) bs at end
-
--- bytes cease to begin what is pending
-abbrev pub Pending-stops : List Sort → List ℕ → ℕ → Stop → Type 0
-Pending-stops ss bs at s = Stopped (Any (Completes requests ss)) bs at s
-
 abbrev pub Step-at : List ℕ → ℕ → Result NextStep Stop → Type 0
 Step-at bs at (Ok x) = Writable-step (step-of (x .step)) × Spelled-at (step-tokens (step-of (x .step))) bs at (x .next)
-Step-at bs at (Err s) = (ss : List Sort) → Pending-stops (a-step ∷ ss) bs at s
+Step-at bs at (Err s) = (ss : List Sort) → Pending-stops requests (a-step ∷ ss) bs at s
 
 abbrev pub Path-at : List ℕ → ℕ → ℕ → Result ℕ Stop → Type 0
 Path-at bs at n (Ok end) = (ps : List Step) × (length ps ≡ n) × Writable-path ps × Spelled-at (path-tokens ps) bs at end
-Path-at bs at n (Err s) = (ss : List Sort) → Pending-stops (many n a-step ++ ss) bs at s
+Path-at bs at n (Err s) = (ss : List Sort) → Pending-stops requests (many n a-step ++ ss) bs at s
 
 -- what stands after a request's first token
 abbrev pub Rest-at : ℕ → List Sort → List ℕ → ℕ → Result Taken Stop → Type 0
 Rest-at first ss bs at (Ok x) = (a : Asked) × (ts : List Token) × Means (x .request) a × Writable a × (tokens a ≡ num first ∷ ts) × Spelled-at ts bs at (x .took)
-Rest-at first ss bs at (Err s) = Pending-stops ss bs at s
+Rest-at first ss bs at (Err s) = Pending-stops requests ss bs at s
 
 -- the request that stands at the beginning of the bytes, and how many of them it took; or no request stands there, and they cease to begin one at a place
 abbrev pub Request-at : List ℕ → Result Taken Stop → Type 0

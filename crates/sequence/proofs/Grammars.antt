@@ -7,13 +7,15 @@ use native.Mathlib.Omega.{arith}
 use lib.ListN.{length, take, drop, length-append}
 use Rattle.std.proofs.shelf.Lists.{append-nil, take-append-le, drop-append-le}
 use Rattle.cbor.specs.Encoding.{all-bytes}
+use Rattle.cbor.specs.declared.reading.Stop.{Stop}
 use Rattle.cbor.specs.Prefix.{Any, Prefix-free, Then, Stops, Stops-at, Stands-at}
+use Rattle.cbor.specs.Reading.{Stopped}
 use Rattle.cbor.proofs.Numbers.{bytes-append}
 use Rattle.cbor.proofs.Words.{free-two, stops-same}
-use Rattle.cbor.proofs.Places.{part-split, part-length, stops-at-first, stops-at-later}
+use Rattle.cbor.proofs.Places.{part-join, part-split, part-length, stops-at-first, stops-at-later}
 use Rattle.sequence.specs.Token.{Token, num, str, token-bytes, spell, Shape, Suits, Token-of}
 use Rattle.sequence.specs.Grammar.{Grammar, next, Takes, Completes, Completable}
-use Rattle.sequence.specs.Reading.{Token-at}
+use Rattle.sequence.specs.Reading.{Token-at, Spelled-at, Pending-stops}
 use Rattle.sequence.proofs.Tokens.{token-free, token-bytes-bytes}
 
 pub spell-append : (ts us : List Token) → spell (ts ++ us) ≡ spell ts ++ spell us
@@ -76,21 +78,33 @@ module _ {S : Type 0} (G : Grammar S) where
     completed (s ∷ ss) = let (ts, f) = can s in let (us, g) = completed ss in (ts ++ us, takes-append (s ∷ ss) ss [] ts us (f ss) g)
 
     -- bytes cease to begin what is pending in its first token
-    pub stop-first : (s : S) (ss : List S) (bs : List ℕ) (at p n : ℕ) → Stops-at (Any (Token-of (G .shape s))) bs at p n → Stops-at (Any (Completes G (s ∷ ss))) bs at p n
-    stop-first s ss bs at p n h = stops-shut s ss bs at p n (stops-at-first (Token-of (G .shape s)) (Rest s ss) (token-free (G .shape s)) (λ t u a. let (ts, f) = completed (next G s t ++ ss) in (spell ts, (ts, (refl, f)))) bs at p n h)
+    pub stop-first : (s : S) (ss : List S) (bs : List ℕ) (at : ℕ) (stop : Stop) → Stopped (Any (Token-of (G .shape s))) bs at stop → Pending-stops G (s ∷ ss) bs at stop
+    stop-first s ss bs at stop h = stops-shut s ss bs at (stop .place) (stop .least) (stops-at-first (Token-of (G .shape s)) (Rest s ss) (token-free (G .shape s)) (λ t u a. let (ts, f) = completed (next G s t ++ ss) in (spell ts, (ts, (refl, f)))) bs at (stop .place) (stop .least) h)
 
   -- or after it
-  pub stop-later : (s : S) (ss : List S) (t : Token) (bs : List ℕ) (at mid p n : ℕ) → Stands-at (Token-of (G .shape s) t) bs at mid → Stops-at (Any (Completes G (next G s t ++ ss))) bs mid p n → Stops-at (Any (Completes G (s ∷ ss))) bs at p n
-  stop-later s ss t bs at mid p n a h = stops-shut s ss bs at p n (stops-at-later (Token-of (G .shape s)) (Rest s ss) (token-free (G .shape s)) t bs at mid p n a h)
+  pub stop-later : (s : S) (ss : List S) (t : Token) (bs : List ℕ) (at mid : ℕ) (stop : Stop) → Stands-at (Token-of (G .shape s) t) bs at mid → Pending-stops G (next G s t ++ ss) bs mid stop → Pending-stops G (s ∷ ss) bs at stop
+  stop-later s ss t bs at mid stop a h = stops-shut s ss bs at (stop .place) (stop .least) (stops-at-later (Token-of (G .shape s)) (Rest s ss) (token-free (G .shape s)) t bs at mid (stop .place) (stop .least) a h)
 
   -- or after several
-  pub stop-after : (ss rest : List S) (ts : List Token) (bs : List ℕ) (at end p n : ℕ) → Takes G ss ts rest → Stands-at (λ w. w ≡ spell ts) bs at end → Stops-at (Any (Completes G rest)) bs end p n → Stops-at (Any (Completes G ss)) bs at p n
+  pub stop-after : (ss rest : List S) (ts : List Token) (bs : List ℕ) (at end : ℕ) (stop : Stop) → Takes G ss ts rest → Spelled-at ts bs at end → Pending-stops G rest bs end stop → Pending-stops G ss bs at stop
   unfolding Takes spell
-  stop-after ss rest [] bs at end p n f (h, k, e) s =
+  stop-after ss rest [] bs at end stop f (h, k, e) s =
       let z : at ≡ end = (let y : end - at ≡ 0 = sym (part-length bs at end h k) ∙ ap length e in omega arith) in
-      subst (λ x. Stops-at (Any (Completes G ss)) bs x p n) (sym z) (subst (λ x. Stops-at (Any (Completes G x)) bs end p n) (sym f) s)
-  stop-after [] rest (t ∷ ts) bs at end p n f h s = absurd f
-  stop-after (x ∷ ss) rest (t ∷ ts) bs at end p n (a, f) (h, k, e) s =
+      subst (λ x. Pending-stops G ss bs x stop) (sym z) (subst (λ x. Pending-stops G x bs end stop) (sym f) s)
+  stop-after [] rest (t ∷ ts) bs at end stop f h s = absurd f
+  stop-after (x ∷ ss) rest (t ∷ ts) bs at end stop (a, f) (h, k, e) s =
       let mid = at + length (token-bytes t) in
       let (m, u, v) = part-split bs (token-bytes t) (spell ts) at end h k e in
-      stop-later x ss t bs at mid p n (omega arith, omega arith, (u, a)) (stop-after (next G x t ++ ss) rest ts bs mid end p n f (m, k, v) s)
+      stop-later x ss t bs at mid stop (omega arith, omega arith, (u, a)) (stop-after (next G x t ++ ss) rest ts bs mid end stop f (m, k, v) s)
+
+-- TOKENS AT PLACES
+
+pub spelled-one : (s : Shape) (t : Token) (bs : List ℕ) (at end : ℕ) → Token-at s t bs at end → Spelled-at (t ∷ []) bs at end
+unfolding spell
+spelled-one s t bs at end ((h, k, (e, w)), l) = (h, k, e ∙ sym (append-nil (token-bytes t)))
+
+pub spelled-append : (ts us : List Token) (bs : List ℕ) (at mid end : ℕ) → Spelled-at ts bs at mid → Spelled-at us bs mid end → Spelled-at (ts ++ us) bs at end
+spelled-append ts us bs at mid end (h, k, e) (i, j, f) = (omega arith, j, part-join bs (spell ts) (spell us) at mid end h i e f ∙ sym (spell-append ts us))
+
+pub spelled-two : (s r : Shape) (t u : Token) (bs : List ℕ) (at mid end : ℕ) → Token-at s t bs at mid → Token-at r u bs mid end → Spelled-at (t ∷ u ∷ []) bs at end
+spelled-two s r t u bs at mid end a b = spelled-append (t ∷ []) (u ∷ []) bs at mid end (spelled-one s t bs at mid a) (spelled-one r u bs mid end b)

@@ -3,15 +3,16 @@ use native.Mathlib.Omega.{arith}
 use Rattle.std.proofs.shelf.Results.{err-from-errBy}
 use Rattle.sequence.specs.Token.{num, str, opcode, number, string}
 use Rattle.sequence.specs.Reading.{Token-at}
-use Rattle.request.specs.Grammar.{a-step, a-number, a-string}
-use Rattle.request.proofs.Places.{first-stops, later-stops, spelled-one, spelled-two}
+use Rattle.sequence.proofs.Grammars.{stop-first, stop-later, spelled-one, spelled-two}
+use Rattle.request.specs.Grammar.{requests, a-step, a-number, a-string}
+use Rattle.request.proofs.Requests.{completable}
 use Rattle.request.proofs.reading.read_step.Needs as need
 
 pub returns-in-Break-kind : need.returns-in-Break-kind
 returns-in-Break-kind c =
     let p = err-from-errBy (c .from-residual .result) (c .from-residual .ensures .1) in
     let s = c .in-Break-kind .field-0 .0 in
-    rw (p .1, p .2) (λ ss. first-stops a-step ss (c .args .bytes .now) (c .args .at) s (c .in-Break-kind .ensures tt))
+    rw (p .1, p .2) (λ ss. stop-first requests completable a-step ss (c .args .bytes .now) (c .args .at) s (c .in-Break-kind .ensures tt))
 
 pub returns-in-Break-index : need.returns-in-Break-index
 returns-in-Break-index c =
@@ -19,7 +20,7 @@ returns-in-Break-index c =
     let s = c .in-Break-index .field-0 .0 in
     let z : c .in-Continue-kind .kind .argument ≡ 0 = omega (arith, c .in-Continue-kind .ensures tt .0 .2 .1) in
     let t : Token-at (opcode 2) (num 0) (c .args .bytes .now) (c .args .at) (c .in-Continue-kind .kind .next) = subst (λ n. Token-at (opcode 2) (num n) (c .args .bytes .now) (c .args .at) (c .in-Continue-kind .kind .next)) z (c .in-Continue-kind .ensures tt) in
-    rw (p .1, p .2) (λ ss. later-stops a-step ss (num 0) (c .args .bytes .now) (c .args .at) (c .in-Continue-kind .kind .next) s t (first-stops a-number ss (c .args .bytes .now) (c .in-Continue-kind .kind .next) s (c .in-Break-index .ensures tt)))
+    rw (p .1, p .2) (λ ss. stop-later requests a-step ss (num 0) (c .args .bytes .now) (c .args .at) (c .in-Continue-kind .kind .next) s (t .0) (stop-first requests completable a-number ss (c .args .bytes .now) (c .in-Continue-kind .kind .next) s (c .in-Break-index .ensures tt)))
 
 pub returns-then-kind-eq0 : need.returns-then-kind-eq0
 returns-then-kind-eq0 c =
@@ -33,7 +34,7 @@ returns-in-Break-key c =
     let s = c .in-Break-key .field-0 .0 in
     let z : c .in-Continue-kind .kind .argument ≡ 1 = omega (arith, c .in-Continue-kind .ensures tt .0 .2 .1) in
     let t : Token-at (opcode 2) (num 1) (c .args .bytes .now) (c .args .at) (c .in-Continue-kind .kind .next) = subst (λ n. Token-at (opcode 2) (num n) (c .args .bytes .now) (c .args .at) (c .in-Continue-kind .kind .next)) z (c .in-Continue-kind .ensures tt) in
-    rw (p .1, p .2) (λ ss. later-stops a-step ss (num 1) (c .args .bytes .now) (c .args .at) (c .in-Continue-kind .kind .next) s t (first-stops a-string ss (c .args .bytes .now) (c .in-Continue-kind .kind .next) s (c .in-Break-key .ensures tt)))
+    rw (p .1, p .2) (λ ss. stop-later requests a-step ss (num 1) (c .args .bytes .now) (c .args .at) (c .in-Continue-kind .kind .next) s (t .0) (stop-first requests completable a-string ss (c .args .bytes .now) (c .in-Continue-kind .kind .next) s (c .in-Break-key .ensures tt)))
 
 pub returns-then-kind-eq1 : need.returns-then-kind-eq1
 returns-then-kind-eq1 c =

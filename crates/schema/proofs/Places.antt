@@ -1,0 +1,125 @@
+-- Nodes at places of lent bytes.
+use mathlib.Core.Path.{_≡_, refl, sym, ap, subst, _∙_}
+use mathlib.Core.Logic.{_⊎_, inl, inr}
+use mathlib.Core.List.{List, [], _∷_, _++_}
+use Prim.Native.Nat.{ℕ, zero, suc, _+_, _-_, _<_, _≤_}
+use native.Mathlib.Omega.{arith}
+use lib.ListN.{length, take, drop}
+use denote.Ref.{RefT, now}
+use Rattle.std.specs.declared.result.Result.{Result}
+use Rattle.std.specs.declared.result.Result.the-variants.{Ok, Err}
+use Rattle.std.proofs.shelf.Tests.{cases-eq}
+use Rattle.cbor.specs.declared.reading.Stop.{Stop}
+use Rattle.cbor.specs.Prefix.{Any}
+use Rattle.cbor.specs.Reading.{Stopped}
+use Rattle.sequence.specs.Token.{Token, num, str, spell, Shape, number, string, Word, Byte-string, Token-of}
+use Rattle.sequence.specs.Grammar.{next, Takes}
+use Rattle.sequence.specs.Reading.{Token-at, Spelled-at, Pending-stops}
+use Rattle.sequence.proofs.Grammars.{spelled-one, spelled-append, spelled-two, stop-first, stop-later}
+use Rattle.schema.specs.declared.nodes.Schema.{Schema}
+use Rattle.schema.specs.declared.nodes.Schema.the-variants.{Literal}
+use Rattle.schema.specs.declared.nodes.Group.the-variants.{Repeat}
+use Rattle.schema.specs.declared.nodes.Field.{Field}
+use Rattle.schema.specs.declared.nodes.Node.{Node}
+use Rattle.schema.specs.declared.nodes.Node.the-variants.{OfSchema, OfGroup, OfField}
+use Rattle.schema.specs.declared.nodes.NextNode.{NextNode}
+use Rattle.schema.specs.Grammar.{Sort, a-rule, a-schema, a-group, the-fields, a-field, a-bound, a-last, a-literal, shape, many, after, after-schema, after-field, grammar}
+use Rattle.schema.specs.Nodes.{schema-own, in-schema, own-tokens, inside}
+use Rattle.schema.specs.Reading.{Range-at, Ranged, Numbered, Keyed, Rest-at, Node-at}
+use Rattle.schema.proofs.Trees.{completable}
+
+-- an opcode, and then the rest of the node
+pub node-whole : (s : Sort) (n : ℕ) (bs : List ℕ) (at mid : ℕ) (r : Result NextNode Stop) → Token-at (shape s) (num n) bs at mid → Rest-at s n bs mid r → Node-at s bs at r
+unfolding Takes
+node-whole s n bs at mid (Ok x) t (ts, e, p, f) =
+    let q = spelled-append (num n ∷ []) ts bs at mid (x .next) (spelled-one (shape s) (num n) bs at mid t) p in
+    ((let a = t .1 in let b = p .0 in omega arith), subst (λ us. Spelled-at us bs at (x .next)) (sym e) q, λ ss. subst (λ us. Takes grammar (s ∷ ss) us (inside (x .node) ++ ss)) (sym e) (t .0 .2 .1, f ss))
+node-whole s n bs at mid (Err stop) t h = λ ss. stop-later grammar s ss (num n) bs at mid stop (t .0) (h ss)
+
+-- nothing but the opcode
+pub rest-none : (s : Sort) (n : ℕ) (x : Node) (bs : List ℕ) (mid : ℕ) → mid ≤ length bs → own-tokens x ≡ num n ∷ [] → after s n ≡ inside x → Rest-at s n bs mid (Ok (record { node = x; next = mid }))
+unfolding Takes spell
+rest-none s n x bs mid h e f = ([], e, (omega arith, h, ap (λ k. take k (drop mid bs)) (let z : mid - mid ≡ 0 = omega arith in z)), λ ss. ap (λ ys. ys ++ ss) f)
+
+pub schema-none : (n : ℕ) (x : Schema) (bs : List ℕ) (at mid : ℕ) → Token-at (shape a-schema) (num n) bs at mid → schema-own x ≡ num n ∷ [] → after-schema n ≡ inside (OfSchema x) → Node-at a-schema bs at (Ok (record { node = OfSchema x; next = mid }))
+schema-none n x bs at mid t e f = node-whole a-schema n bs at mid (Ok (record { node = OfSchema x; next = mid })) t (rest-none a-schema n (OfSchema x) bs mid (t .0 .1) e f)
+
+-- TWO NUMBERS
+
+pub range-first : (bs : List ℕ) (at : ℕ) (stop : Stop) → Stopped (Any (Token-of number)) bs at stop → Range-at bs at (Err stop)
+range-first bs at stop h = λ ss. stop-first grammar completable a-bound (a-last ∷ ss) bs at stop h
+
+pub range-second : (bs : List ℕ) (at mid n : ℕ) (stop : Stop) → Token-at number (num n) bs at mid → Stopped (Any (Token-of number)) bs mid stop → Range-at bs at (Err stop)
+range-second bs at mid n stop t h = λ ss. stop-later grammar a-bound (a-last ∷ ss) (num n) bs at mid stop (t .0) (stop-first grammar completable a-last ss bs mid stop h)
+
+ranged-after : (n : ℕ) → 1 ≤ n → n ≤ 4 → after-schema n ≡ a-bound ∷ a-last ∷ []
+ranged-after zero h l = absurd (omega arith)
+ranged-after (suc zero) h l = refl
+ranged-after (suc (suc zero)) h l = refl
+ranged-after (suc (suc (suc zero))) h l = refl
+ranged-after (suc (suc (suc (suc zero)))) h l = refl
+ranged-after (suc (suc (suc (suc (suc n))))) h l = absurd (omega arith)
+
+pub ranged-stops : (n : ℕ) (bs : List ℕ) (at : ℕ) (stop : Stop) → 1 ≤ n → n ≤ 4 → Range-at bs at (Err stop) → Rest-at a-schema n bs at (Err stop)
+ranged-stops n bs at stop h l f = λ ss. subst (λ ys. Pending-stops grammar (ys ++ ss) bs at stop) (sym (ranged-after n h l)) (f ss)
+
+none-inside : (x : Schema) → in-schema x .1 ≡ 0 → inside (OfSchema x) ≡ []
+unfolding many
+none-inside x e = ap (λ k. many k (in-schema x .0)) e
+
+pub ranged-there : (n lo hi : ℕ) (bs : List ℕ) (at end : ℕ) (x : Schema) → 1 ≤ n → n ≤ 4 → Word lo × Word hi × Spelled-at (num lo ∷ num hi ∷ []) bs at end → Ranged n lo hi x → Rest-at a-schema n bs at (Ok (record { node = OfSchema x; next = end }))
+unfolding Takes
+ranged-there n lo hi bs at end x h l (a, b, p) (e, f) = (num lo ∷ num hi ∷ [], e, p, λ ss. subst (λ ys. Takes grammar (ys ++ ss) (num lo ∷ num hi ∷ []) (inside (OfSchema x) ++ ss)) (sym (ranged-after n h l)) (subst (λ ys. Takes grammar (a-bound ∷ a-last ∷ ss) (num lo ∷ num hi ∷ []) (ys ++ ss)) (sym (none-inside x f)) (a, (b, refl))))
+
+pub repeat-there : (lo hi : ℕ) (bs : List ℕ) (at end : ℕ) → Word lo × Word hi × Spelled-at (num lo ∷ num hi ∷ []) bs at end → Rest-at a-group 4 bs at (Ok (record { node = OfGroup (Repeat lo hi); next = end }))
+unfolding Takes many
+repeat-there lo hi bs at end (a, b, p) = (num lo ∷ num hi ∷ [], refl, p, λ ss. (a, (b, refl)))
+
+pub repeat-stops : (bs : List ℕ) (at : ℕ) (stop : Stop) → Range-at bs at (Err stop) → Rest-at a-group 4 bs at (Err stop)
+repeat-stops bs at stop f = λ ss. f (a-group ∷ ss)
+
+-- ONE NUMBER
+
+abbrev Three : ℕ → Type 0
+Three n = (n ≡ 8) ⊎ ((n ≡ 9) ⊎ (n ≡ 10))
+
+three : (n : ℕ) → 8 ≤ n → n ≤ 10 → Three n
+three n h l = elim (cases-eq n 8) [ inl e ↦ inl e | inr e ↦ elim (cases-eq n 9) [ inl f ↦ inr (inl f) | inr f ↦ inr (inr (omega arith)) ] ]
+
+pub numbered-stops : (n : ℕ) (bs : List ℕ) (at : ℕ) (stop : Stop) → 8 ≤ n → n ≤ 10 → Stopped (Any (Token-of number)) bs at stop → Rest-at a-schema n bs at (Err stop)
+numbered-stops n bs at stop h l f = λ ss. elim (three n h l) [
+  | inl e ↦ subst (λ k. Pending-stops grammar (after-schema k ++ ss) bs at stop) (sym e) (stop-first grammar completable the-fields ss bs at stop f)
+  | inr (inl e) ↦ subst (λ k. Pending-stops grammar (after-schema k ++ ss) bs at stop) (sym e) (stop-first grammar completable a-last (a-schema ∷ ss) bs at stop f)
+  | inr (inr e) ↦ subst (λ k. Pending-stops grammar (after-schema k ++ ss) bs at stop) (sym e) (stop-first grammar completable a-last ss bs at stop f)
+]
+
+numbered-takes : (n k : ℕ) (x : Schema) (ss : List Sort) → 8 ≤ n → n ≤ 10 → Word k → Numbered n k x → Takes grammar (after-schema n ++ ss) (num k ∷ []) (inside (OfSchema x) ++ ss)
+unfolding Takes many
+numbered-takes n k x ss h l w (e, (f, g, j)) = elim (three n h l) [
+  | inl z ↦ subst (λ m. Takes grammar (after-schema m ++ ss) (num k ∷ []) (inside (OfSchema x) ++ ss)) (sym z) (w, ap (λ p. many (p .1) (p .0) ++ ss) (sym (f z)))
+  | inr (inl z) ↦ subst (λ m. Takes grammar (after-schema m ++ ss) (num k ∷ []) (inside (OfSchema x) ++ ss)) (sym z) (w, ap (λ p. many (p .1) (p .0) ++ ss) (sym (g z)))
+  | inr (inr z) ↦ subst (λ m. Takes grammar (after-schema m ++ ss) (num k ∷ []) (inside (OfSchema x) ++ ss)) (sym z) (w, ap (λ p. many (p .1) (p .0) ++ ss) (sym (j z)))
+]
+
+pub numbered-there : (n k : ℕ) (bs : List ℕ) (at end : ℕ) (x : Schema) → 8 ≤ n → n ≤ 10 → Token-at number (num k) bs at end → Numbered n k x → Rest-at a-schema n bs at (Ok (record { node = OfSchema x; next = end }))
+numbered-there n k bs at end x h l t f = (num k ∷ [], f .0, spelled-one number (num k) bs at end t, λ ss. numbered-takes n k x ss h l (t .0 .2 .1) f)
+
+-- STRINGS
+
+pub literal-there : (bs : List ℕ) (at end : ℕ) (item : RefT (List ℕ)) → Token-at string (str (now item)) bs at end → Rest-at a-schema 5 bs at (Ok (record { node = OfSchema (Literal item); next = end }))
+unfolding Takes many
+literal-there bs at end item t = (str (now item) ∷ [], refl, spelled-one string (str (now item)) bs at end t, λ ss. (t .0 .2 .1, refl))
+
+-- FIELDS
+
+keyed-after : (n : ℕ) → n ≤ 1 → after-field n ≡ a-literal ∷ a-schema ∷ []
+keyed-after zero h = refl
+keyed-after (suc zero) h = refl
+keyed-after (suc (suc n)) h = absurd (omega arith)
+
+pub keyed-stops : (n : ℕ) (bs : List ℕ) (at : ℕ) (stop : Stop) → n ≤ 1 → Stopped (Any (Token-of string)) bs at stop → Rest-at a-field n bs at (Err stop)
+keyed-stops n bs at stop h f = λ ss. subst (λ ys. Pending-stops grammar (ys ++ ss) bs at stop) (sym (keyed-after n h)) (stop-first grammar completable a-literal (a-schema ∷ ss) bs at stop f)
+
+pub keyed-there : (n : ℕ) (k : List ℕ) (bs : List ℕ) (at end : ℕ) (x : Field) → n ≤ 1 → Token-at string (str k) bs at end → Keyed n k x → Rest-at a-field n bs at (Ok (record { node = OfField x; next = end }))
+unfolding Takes many
+keyed-there n k bs at end x h t (e, f) = (str k ∷ [], e, spelled-one string (str k) bs at end t, λ ss. subst (λ ys. Takes grammar (ys ++ ss) (str k ∷ []) (inside (OfField x) ++ ss)) (sym (keyed-after n h)) (t .0 .2 .1, ap (λ p. many (p .1) (p .0) ++ ss) (sym f)))

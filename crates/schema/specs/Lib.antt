@@ -1,0 +1,5 @@
+pub mod Rules
+pub mod Grammar
+pub mod Nodes
+pub mod Reading
+pub mod Stacks

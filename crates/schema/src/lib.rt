@@ -1,0 +1,3 @@
+// Rules, after CDDL (RFC 8610): their bytes.
+pub mod nodes;
+pub mod reading;
