@@ -1,3 +1,5 @@
 pub mod Trees
 pub mod Parts
 pub mod Places
+pub mod Stacks
+pub mod Progresses

@@ -59,17 +59,26 @@ mutual
   fields-take no-field ss ts f g = g
   fields-take (more-fields x fs) ss ts (a, f) g = field-takes x (many (how-many fs) a-field ++ ss) (fields-tokens fs ts) a (fields-take fs ss ts f g)
 
--- a rule takes the tokens of a schema
-as-rule : (ss : List Sort) (ts : List Token) → Takes grammar (a-schema ∷ ss) ts [] → Takes grammar (a-rule ∷ ss) ts []
+-- a rule takes the tokens of a schema, and the other way round
+pub as-rule : (ss rest : List Sort) (t : Token) (ts : List Token) → Takes grammar (a-schema ∷ ss) (t ∷ ts) rest → Takes grammar (a-rule ∷ ss) (t ∷ ts) rest
 unfolding Takes
-as-rule ss [] h = absurd (let z : _≡_ {A = ℕ} 0 1 = cc in omega arith)
-as-rule ss (num n ∷ ts) h = h
-as-rule ss (str bs ∷ ts) h = h
+as-rule ss rest (num n) ts h = h
+as-rule ss rest (str bs) ts h = h
+
+pub as-schema : (ss rest : List Sort) (t : Token) (ts : List Token) → Takes grammar (a-rule ∷ ss) (t ∷ ts) rest → Takes grammar (a-schema ∷ ss) (t ∷ ts) rest
+unfolding Takes
+as-schema ss rest (num n) ts h = h
+as-schema ss rest (str bs) ts h = h
+
+root-takes : (ss : List Sort) (ts : List Token) → Takes grammar (a-schema ∷ ss) ts [] → Takes grammar (a-rule ∷ ss) ts []
+unfolding Takes
+root-takes ss [] h = absurd (let z : _≡_ {A = ℕ} 0 1 = cc in omega arith)
+root-takes ss (t ∷ ts) h = as-rule ss [] t ts h
 
 roots-take : (xs : List Schema) (ss : List Sort) (ts : List Token) → Writable-schemas xs → Takes grammar ss ts [] → Takes grammar (many (length xs) a-rule ++ ss) (schemas-tokens xs ts) []
 unfolding many schemas-tokens Writable-schemas
 roots-take [] ss ts f g = g
-roots-take (x ∷ xs) ss ts (a, f) g = as-rule (many (length xs) a-rule ++ ss) (schema-tokens x (schemas-tokens xs ts)) (schema-takes x (many (length xs) a-rule ++ ss) (schemas-tokens xs ts) a (roots-take xs ss ts f g))
+roots-take (x ∷ xs) ss ts (a, f) g = root-takes (many (length xs) a-rule ++ ss) (schema-tokens x (schemas-tokens xs ts)) (schema-takes x (many (length xs) a-rule ++ ss) (schemas-tokens xs ts) a (roots-take xs ss ts f g))
 
 pub rules-take : (xs : List Schema) → Writable xs → Takes grammar (the-rules ∷ []) (tokens xs) []
 unfolding Takes

@@ -3,3 +3,4 @@ pub mod Grammar
 pub mod Nodes
 pub mod Reading
 pub mod Stacks
+pub mod Verdict

@@ -108,8 +108,9 @@ string-in (OfField (Required key)) = length (now key)
 string-in (OfField (Optional key)) = length (now key)
 string-in (OfField Others) = 0
 
-abbrev pub as-rule : Node-sort → ℕ
-as-rule ARule = 1
-as-rule ASchema = 0
-as-rule AGroup = 0
-as-rule AField = 0
+-- a rule is a part of its own
+abbrev pub rule-part : Node-sort → ℕ
+rule-part ARule = 1
+rule-part ASchema = 0
+rule-part AGroup = 0
+rule-part AField = 0

@@ -1,5 +1,6 @@
 -- What reading a node tells.
 use mathlib.Core.Path.{_≡_}
+use mathlib.Core.Logic.{_⊎_}
 use mathlib.Core.List.{List, [], _∷_, _++_}
 use Prim.Native.Nat.{ℕ, _+_, _<_, _≤_}
 use lib.ListN.{length}
@@ -10,26 +11,33 @@ use Rattle.sequence.specs.Token.{Token, num, str, Word}
 use Rattle.sequence.specs.Grammar.{Takes}
 use Rattle.sequence.specs.Reading.{Spelled-at, Pending-stops}
 use Rattle.schema.specs.declared.nodes.Node.{Node}
+use Rattle.schema.specs.declared.nodes.Node.the-variants.{OfSchema, OfGroup, OfField}
 use Rattle.schema.specs.declared.nodes.NextNode.{NextNode}
 use Rattle.schema.specs.declared.nodes.Range.{Range}
 use Rattle.schema.specs.declared.nodes.Schema.{Schema}
 use Rattle.schema.specs.declared.nodes.Group.{Group}
 use Rattle.schema.specs.declared.nodes.Field.{Field}
-use Rattle.schema.specs.Grammar.{Sort, a-schema, a-field, a-bound, a-last, many, after-group, after, grammar}
+use Rattle.schema.specs.Grammar.{Sort, a-rule, a-schema, a-group, a-field, a-bound, a-last, many, after-group, after, grammar}
 use Rattle.schema.specs.Nodes.{schema-own, in-schema, group-own, in-group, field-own, in-field, own-tokens, inside}
 
 abbrev pub Range-at : List ℕ → ℕ → Result Range Stop → Type 0
 Range-at bs at (Ok r) = Word (r .low) × Word (r .high) × Spelled-at (num (r .low) ∷ num (r .high) ∷ []) bs at (r .next)
 Range-at bs at (Err s) = (ss : List Sort) → Pending-stops grammar (a-bound ∷ a-last ∷ ss) bs at s
 
--- a node of a sort: its own tokens stand there, and take the sort to what is in the node
+-- a node of a sort
+abbrev pub Of-sort : Sort → Node → Type 0
+Of-sort s (OfSchema x) = (s ≡ a-schema) ⊎ (s ≡ a-rule)
+Of-sort s (OfGroup x) = s ≡ a-group
+Of-sort s (OfField x) = s ≡ a-field
+
+-- its own tokens stand there, and take the sort to what is in the node
 abbrev pub Node-at : Sort → List ℕ → ℕ → Result NextNode Stop → Type 0
-Node-at s bs at (Ok x) = (at < x .next) × Spelled-at (own-tokens (x .node)) bs at (x .next) × ((ss : List Sort) → Takes grammar (s ∷ ss) (own-tokens (x .node)) (inside (x .node) ++ ss))
+Node-at s bs at (Ok x) = Of-sort s (x .node) × (at < x .next) × Spelled-at (own-tokens (x .node)) bs at (x .next) × ((ss : List Sort) → Takes grammar (s ∷ ss) (own-tokens (x .node)) (inside (x .node) ++ ss))
 Node-at s bs at (Err stop) = (ss : List Sort) → Pending-stops grammar (s ∷ ss) bs at stop
 
 -- the same after a node's opcode
 abbrev pub Rest-at : Sort → ℕ → List ℕ → ℕ → Result NextNode Stop → Type 0
-Rest-at s n bs at (Ok x) = (ts : List Token) × (own-tokens (x .node) ≡ num n ∷ ts) × Spelled-at ts bs at (x .next) × ((ss : List Sort) → Takes grammar (after s n ++ ss) ts (inside (x .node) ++ ss))
+Rest-at s n bs at (Ok x) = Of-sort s (x .node) × (ts : List Token) × (own-tokens (x .node) ≡ num n ∷ ts) × Spelled-at ts bs at (x .next) × ((ss : List Sort) → Takes grammar (after s n ++ ss) ts (inside (x .node) ++ ss))
 Rest-at s n bs at (Err stop) = (ss : List Sort) → Pending-stops grammar (after s n ++ ss) bs at stop
 
 -- a schema with two numbers, or with one, by its opcode

@@ -1,12 +1,13 @@
 // Rules read from lent bytes, over a stack of what is pending in lent numbers, with the place where there are none.
 ghost use mathlib.Core.Path.{_≡_};
-ghost use mathlib.Core.List.{_++_};
-ghost use Prim.Native.Nat.{_+_, _*_, _≤_, _<_};
-ghost use lib.ListN.{length};
+ghost use mathlib.Core.List.{_∷_, _++_};
+ghost use Prim.Native.Nat.{min, _+_, _*_, _≤_, _<_};
+ghost use lib.ListN.{length, getD};
 ghost use Rattle.schema.specs.Grammar.{many};
-ghost use Rattle.schema.specs.Nodes.{sort-of, in-schema, in-node, run-of, string-in, as-rule};
+ghost use Rattle.schema.specs.Nodes.{sort-of, in-schema, in-node, run-of, string-in, rule-part};
 ghost use Rattle.schema.specs.Reading.{Node-at};
-ghost use Rattle.schema.specs.Stacks.{sort-number, number-sort, pending};
+ghost use Rattle.schema.specs.Stacks.{number-sort, pending};
+ghost use Rattle.schema.specs.Verdict.{Reached, Advances, Rules-at, Rules-told};
 use crate::nodes::Field;
 use crate::nodes::Group;
 use crate::nodes::NextNode;
@@ -18,6 +19,29 @@ use crate::nodes::read_field;
 use crate::nodes::read_group;
 use crate::nodes::read_schema;
 use cbor::reading::Stop;
+use sequence::reading::read_number;
+
+// Rules of more parts are not looked at.
+pub const MOST_PARTS: usize = 8192;
+
+// How many numbers the stack takes: two for each run, and one run more than parts.
+pub const STACK: usize = 16388;
+
+// Why bytes are no rules to look at.
+#[derive(Clone, Copy)]
+pub enum NoRules {
+    TooLittleLent,
+    TooLarge,
+    Wrong(usize),
+}
+
+// How far reading has come: to which byte, with how many runs pending, after how many parts.
+#[derive(Clone, Copy)]
+struct Progress {
+    at: usize,
+    depth: usize,
+    parts: usize,
+}
 
 fn read_node<'a>(bytes: &'a [u8], at: usize, sort: Sort) -> Result<NextNode<'a>, Stop>
     ensures { λ r. ⌜ Node-at (sort-of sort) (now (bytes .entry)) at r ⌝ }
@@ -67,4 +91,125 @@ fn string_in_of(node: Node<'_>) -> usize
         Node::OfField(Field::Required(key) | Field::Optional(key)) => key.len(),
         _ => 0,
     }
+}
+
+fn sort_at(number: u64) -> Sort
+    ensures { λ r. ⌜ sort-of r ≡ number-sort number ⌝ }
+{
+    match number {
+        0 => Sort::ARule,
+        1 => Sort::ASchema,
+        2 => Sort::AGroup,
+        _ => Sort::AField,
+    }
+}
+
+fn number_of(sort: Sort) -> u64
+    ensures { λ r. ⌜ number-sort r ≡ sort-of sort ⌝ }
+{
+    match sort {
+        Sort::ARule => 0,
+        Sort::ASchema => 1,
+        Sort::AGroup => 2,
+        Sort::AField => 3,
+    }
+}
+
+fn push(stack: &mut [u64], depth: usize, run: Run)
+    requires { ⌜ 2 * depth + 2 ≤ length (now stack) ⌝ }
+    ensures { λ _. ⌜ pending (now (stack .exit)) (depth + 1) ≡ many (run .count) (sort-of (run .sort)) ++ pending (now (stack .entry)) depth ⌝ }
+{
+    stack[2 * depth] = number_of(run.sort);
+    stack[2 * depth + 1] = run.count;
+}
+
+// Takes one of the run on top, which is there.
+fn take_one(stack: &mut [u64], depth: usize) -> Sort
+    requires { ⌜ 2 * depth + 2 ≤ length (now stack) ⌝ }
+    requires { ⌜ 0 < getD (now stack) (2 * depth + 1) 0 ⌝ }
+    ensures { λ r. ⌜ pending (now (stack .entry)) (depth + 1) ≡ sort-of r ∷ pending (now (stack .exit)) (depth + 1) ⌝ }
+{
+    let sort = sort_at(stack[2 * depth]);
+    stack[2 * depth + 1] -= 1;
+    sort
+}
+
+// How many parts a node counts for, or more than enough.
+fn parts_of(sort: Sort, node: Node<'_>) -> usize
+    ensures { λ r. ⌜ r ≡ min (rule-part sort + (1 + string-in (node .entry))) 18446744073709551615 ⌝ }
+{
+    let own = match sort {
+        Sort::ARule => 2usize,
+        _ => 1,
+    };
+    own.saturating_add(string_in_of(node))
+}
+
+// One node more, or an empty run less.
+fn advance(bytes: &[u8], stack: &mut [u64], progress: Progress) -> Result<Progress, NoRules>
+    requires room { ⌜ 16388 ≤ length (now stack) ⌝ }
+    requires pending { ⌜ 0 < progress .depth ⌝ }
+    requires reached { ⌜ Reached (now bytes) (now stack) progress ⌝ }
+    ensures { λ r. ⌜ Advances (now (bytes .entry)) progress (now (stack .exit)) r ⌝ }
+{
+    let top = progress.depth - 1;
+    if stack[2 * top + 1] == 0 {
+        return Ok(Progress {
+            at: progress.at,
+            depth: top,
+            parts: progress.parts,
+        });
+    }
+    let sort = take_one(stack, top);
+    let read = match read_node(bytes, progress.at, sort) {
+        Ok(read) => read,
+        Err(stop) => return Err(NoRules::Wrong(stop.place)),
+    };
+    let parts = progress.parts.saturating_add(parts_of(sort, read.node));
+    if parts > MOST_PARTS {
+        return Err(NoRules::TooLarge);
+    }
+    push(stack, progress.depth, in_node_of(read.node));
+    Ok(Progress {
+        at: read.next,
+        depth: progress.depth + 1,
+        parts,
+    })
+}
+
+fn read_all(bytes: &[u8], stack: &mut [u64]) -> Result<usize, NoRules>
+    requires { ⌜ 16388 ≤ length (now stack) ⌝ }
+    ensures { λ r. ⌜ Rules-at (now (bytes .entry)) r ⌝ }
+{
+    let rules = match read_number(bytes, 0) {
+        Ok(rules) => rules,
+        Err(stop) => return Err(NoRules::Wrong(stop.place)),
+    };
+    let run = Run {
+        sort: Sort::ARule,
+        count: rules.argument,
+    };
+    push(stack, 0, run);
+    let mut progress = Progress {
+        at: rules.next,
+        depth: 1,
+        parts: 0,
+    };
+    while progress.depth > 0 {
+        progress = advance(bytes, stack, progress)?;
+    }
+    if progress.at < bytes.len() {
+        return Err(NoRules::Wrong(progress.at));
+    }
+    Ok(progress.parts)
+}
+
+// How many parts the rules have that some bytes are, or why they are none to look at.
+pub fn read_rules(bytes: &[u8], lent: &mut [u64]) -> Result<usize, NoRules>
+    ensures { λ r. ⌜ Rules-told (length (now (lent .entry))) (now (bytes .entry)) r ⌝ }
+{
+    if lent.len() < STACK {
+        return Err(NoRules::TooLittleLent);
+    }
+    read_all(bytes, lent)
 }

@@ -23,7 +23,7 @@ unfolding many
 returns-then-opcode-eq2 c =
     let z : c .in-Continue-opcode .opcode .argument ≡ 2 = omega (arith, c .in-Continue-opcode .ensures tt .0 .2 .1) in
     let t : Token-at (opcode 2) (num 2) (c .args .bytes .now) (c .args .at) (c .in-Continue-opcode .opcode .next) = subst (λ n. Token-at (opcode 2) (num n) (c .args .bytes .now) (c .args .at) (c .in-Continue-opcode .opcode .next)) z (c .in-Continue-opcode .ensures tt) in
-    node-whole a-field 2 (c .args .bytes .now) (c .args .at) (c .in-Continue-opcode .opcode .next) (Ok (record { node = OfField Others; next = (c .in-Continue-opcode .opcode .next) })) t (rest-none a-field 2 (OfField Others) (c .args .bytes .now) (c .in-Continue-opcode .opcode .next) (t .0 .1) refl refl)
+    node-whole a-field 2 (c .args .bytes .now) (c .args .at) (c .in-Continue-opcode .opcode .next) (Ok (record { node = OfField Others; next = (c .in-Continue-opcode .opcode .next) })) t (rest-none a-field 2 (OfField Others) (c .args .bytes .now) (c .in-Continue-opcode .opcode .next) (t .0 .1) refl refl refl)
 
 pub returns-in-Break-key : need.returns-in-Break-key
 returns-in-Break-key c =

@@ -1,4 +1,4 @@
-use mathlib.Core.Path.{_≡_, subst}
+use mathlib.Core.Path.{_≡_, refl, subst}
 use native.Mathlib.Omega.{arith}
 use Rattle.std.proofs.shelf.Results.{err-from-errBy}
 use Rattle.std.specs.declared.result.Result.the-variants.{Ok}
@@ -24,4 +24,4 @@ returns-then-opcode-eq4 c =
     node-whole a-group 4 (c .args .bytes .now) (c .args .at) (c .in-Continue-opcode .opcode .next) (c .read-repeat .result) t (c .read-repeat .ensures)
 
 pub returns : need.returns
-returns c = node-whole a-group (c .in-Continue-opcode .opcode .argument) (c .args .bytes .now) (c .args .at) (c .in-Continue-opcode .opcode .next) (Ok (record { node = OfGroup (c .plain-group .result); next = (c .in-Continue-opcode .opcode .next) })) (c .in-Continue-opcode .ensures tt) (rest-none a-group (c .in-Continue-opcode .opcode .argument) (OfGroup (c .plain-group .result)) (c .args .bytes .now) (c .in-Continue-opcode .opcode .next) (c .in-Continue-opcode .ensures tt .0 .1) (c .plain-group .ensures .0) (c .plain-group .ensures .1))
+returns c = node-whole a-group (c .in-Continue-opcode .opcode .argument) (c .args .bytes .now) (c .args .at) (c .in-Continue-opcode .opcode .next) (Ok (record { node = OfGroup (c .plain-group .result); next = (c .in-Continue-opcode .opcode .next) })) (c .in-Continue-opcode .ensures tt) (rest-none a-group (c .in-Continue-opcode .opcode .argument) (OfGroup (c .plain-group .result)) (c .args .bytes .now) (c .in-Continue-opcode .opcode .next) (c .in-Continue-opcode .ensures tt .0 .1) refl (c .plain-group .ensures .0) (c .plain-group .ensures .1))

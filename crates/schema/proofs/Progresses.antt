@@ -1,0 +1,133 @@
+-- Reading rules, node by node.
+use mathlib.Core.Path.{_≡_, refl, sym, ap, subst, _∙_}
+use mathlib.Core.List.{List, [], _∷_, _++_, append-assoc}
+use Prim.Native.Nat.{ℕ, suc, _+_, _*_, _-_, _<_, _≤_}
+use native.Mathlib.Omega.{arith}
+use lib.ListN.{length, getD, take}
+use Rattle.std.specs.declared.result.Result.the-variants.{Ok, Err}
+use Rattle.std.proofs.shelf.Lists.{append-nil, take-all, take-more}
+use Rattle.cbor.specs.declared.reading.Stop.{Stop}
+use Rattle.cbor.specs.Prefix.{Any, Stops}
+use Rattle.cbor.specs.Reading.{Stopped}
+use Rattle.sequence.specs.Token.{Token, num, spell, number, Token-of}
+use Rattle.sequence.specs.Grammar.{Takes, Completes}
+use Rattle.sequence.specs.Reading.{Token-at, Spelled-at, Pending-stops}
+use Rattle.sequence.proofs.Grammars.{takes-append, completes-free, spelled-one, spelled-append, stop-first, stop-after}
+use Rattle.schema.specs.declared.nodes.NextNode.{NextNode}
+use Rattle.schema.specs.declared.nodes.Node.{Node}
+use Rattle.schema.specs.declared.nodes.Run.{Run}
+use Rattle.schema.specs.declared.nodes.Sort.{Sort as Node-sort}
+use Rattle.schema.specs.declared.reading.Progress.{Progress}
+use Rattle.schema.specs.Rules.{Schema, Are-rules, parts}
+use Rattle.schema.specs.Grammar.{Sort, the-rules, a-rule, many, grammar, parts-in}
+use Rattle.schema.specs.Nodes.{own-tokens, sort-of, in-node, inside, run-of, string-in, rule-part}
+use Rattle.schema.specs.Reading.{Node-at}
+use Rattle.schema.specs.Stacks.{pending}
+use Rattle.schema.specs.Verdict.{Too-many, Wrong-at, Reached}
+use Rattle.schema.proofs.Trees.{completable, rules-in, are-completes, completes-are}
+use Rattle.schema.proofs.Parts.{parts-append, rules-count, node-weighs}
+
+-- where pending rules stop, they are wrong
+pub wrong-from : (bs : List ℕ) (stop : Stop) → Pending-stops grammar (the-rules ∷ []) bs 0 stop → Wrong-at bs (stop .place)
+wrong-from bs stop (h, t) =
+    let z : stop .place - 0 ≡ stop .place = omega arith in
+    let s = subst (λ p. Stops (Any (Completes grammar (the-rules ∷ []))) bs p (stop .least - 0)) z t in
+    record {
+      within = s .within;
+      begins = (let (r, c) = s .begins in (r, completes-are (take (stop .place) bs ++ r) c));
+      ends = λ l (r, c). s .ends l (r, are-completes (take (suc (stop .place)) bs ++ r) c);
+      short = λ e a. s .unread bs [] (are-completes bs a) (sym (append-nil bs));
+    }
+
+module _ (bs stack : List ℕ) (s : Progress) (h : Reached bs stack s) where
+  -- an empty run on top
+  pub one-less : (k : ℕ) → s .depth ≡ k + 1 → pending stack (k + 1) ≡ pending stack k → Reached bs stack (record { at = s .at; depth = k; parts = s .parts })
+  one-less k d e = record {
+    few = h .few;
+    deep = (let z = h .deep in omega arith);
+    tokens = h .tokens;
+    spelled = h .spelled;
+    takes = subst (λ ss. Takes grammar (the-rules ∷ []) (h .tokens) ss) (ap (pending stack) d ∙ e) (h .takes);
+    counted = h .counted;
+  }
+
+  module _ (taken : List ℕ) (q : Node-sort) (top : pending stack (s .depth) ≡ sort-of q ∷ pending taken (s .depth)) where
+    one-pending : Takes grammar (the-rules ∷ []) (h .tokens) (sort-of q ∷ pending taken (s .depth))
+    one-pending = subst (λ ss. Takes grammar (the-rules ∷ []) (h .tokens) ss) top (h .takes)
+
+    -- no node there
+    pub no-node : (stop : Stop) → Node-at (sort-of q) bs (s .at) (Err stop) → Wrong-at bs (stop .place)
+    no-node stop f = wrong-from bs stop (stop-after grammar (the-rules ∷ []) (sort-of q ∷ pending taken (s .depth)) (h .tokens) bs 0 (s .at) stop one-pending (h .spelled) (f (pending taken (s .depth))))
+
+    -- one there
+    module _ (x : NextNode) (node : Node-at (sort-of q) bs (s .at) (Ok x)) where
+      more : List Token
+      more = h .tokens ++ own-tokens (x .node)
+
+      spelled : Spelled-at (h .tokens ++ own-tokens (x .node)) bs 0 (x .next)
+      spelled = spelled-append (h .tokens) (own-tokens (x .node)) bs 0 (s .at) (x .next) (h .spelled) (node .2)
+
+      taking : Takes grammar (the-rules ∷ []) (h .tokens ++ own-tokens (x .node)) (inside (x .node) ++ pending taken (s .depth))
+      taking = takes-append grammar (the-rules ∷ []) (sort-of q ∷ pending taken (s .depth)) (inside (x .node) ++ pending taken (s .depth)) (h .tokens) (own-tokens (x .node)) one-pending (node .3 (pending taken (s .depth)))
+
+      counting : parts-in (the-rules ∷ []) (h .tokens ++ own-tokens (x .node)) ≡ s .parts + (rule-part q + (1 + string-in (x .node)))
+      counting = parts-append (the-rules ∷ []) (sort-of q ∷ pending taken (s .depth)) (h .tokens) (own-tokens (x .node)) one-pending ∙ (λ i. sym (h .counted) i + node-weighs q (x .node) (pending taken (s .depth)) (node .0) i)
+
+      pub too-many : 8192 < s .parts + (rule-part q + (1 + string-in (x .node))) → Too-many bs
+      too-many l = (h .tokens ++ own-tokens (x .node), inside (x .node) ++ pending taken (s .depth), x .next, spelled, taking, subst (λ n. 8192 < n) (sym counting) l)
+
+      pub one-node : (new : List ℕ) (r : Run) (n : ℕ) → run-of r ≡ in-node (x .node) → pending new (s .depth + 1) ≡ many (r .count) (sort-of (r .sort)) ++ pending taken (s .depth) → n ≡ s .parts + (rule-part q + (1 + string-in (x .node))) → n ≤ 8192 → Reached bs new (record { at = x .next; depth = s .depth + 1; parts = n })
+      one-node new r n e p m l = record {
+        few = l;
+        deep = (let z = h .deep in omega arith);
+        tokens = h .tokens ++ own-tokens (x .node);
+        spelled = spelled;
+        takes = subst (λ ss. Takes grammar (the-rules ∷ []) (h .tokens ++ own-tokens (x .node)) ss) (sym (p ∙ ap (λ y. many (y .1) (y .0) ++ pending taken (s .depth)) e)) taking;
+        counted = m ∙ sym counting;
+      }
+
+-- THE BEGINNING AND THE END
+
+pub no-number : (bs : List ℕ) (stop : Stop) → Stopped (Any (Token-of number)) bs 0 stop → Wrong-at bs (stop .place)
+no-number bs stop h = wrong-from bs stop (stop-first grammar completable the-rules [] bs 0 stop h)
+
+pub begun : (bs stack : List ℕ) (n end : ℕ) → Token-at number (num n) bs 0 end → pending stack 1 ≡ many n a-rule ++ [] → Reached bs stack (record { at = end; depth = 1; parts = 0 })
+unfolding Takes parts-in
+begun bs stack n end t e = record {
+  few = omega arith;
+  deep = omega arith;
+  tokens = num n ∷ [];
+  spelled = spelled-one number (num n) bs 0 end t;
+  takes = (t .0 .2 .1, sym e);
+  counted = refl;
+}
+
+module _ (bs stack : List ℕ) (s : Progress) (h : Reached bs stack s) (z : s .depth ≡ 0) where
+  over : Takes grammar (the-rules ∷ []) (h .tokens) []
+  unfolding pending
+  over = subst (λ k. Takes grammar (the-rules ∷ []) (h .tokens) (pending stack k)) z (h .takes)
+
+  front : take (s .at) bs ≡ spell (h .tokens)
+  front = ap (λ k. take k bs) (let y : s .at ≡ s .at - 0 = omega arith in y) ∙ h .spelled .2
+
+  -- bytes after the rules
+  pub trailing : s .at < length bs → Wrong-at bs (s .at)
+  trailing l = record {
+    within = omega arith;
+    begins = ([], completes-are (take (s .at) bs ++ []) (h .tokens, (append-nil (take (s .at) bs) ∙ front, over)));
+    ends = λ _ (r, a).
+        let (us, (e, f)) = are-completes (take (suc (s .at)) bs ++ r) a in
+        let b = getD bs (s .at) 0 in
+        let g : take (suc (s .at)) bs ≡ take (s .at) bs ++ b ∷ [] = ap (λ k. take k bs) (let y : suc (s .at) ≡ s .at + 1 = omega arith in y) ∙ take-more bs (s .at) 0 l in
+        let j : take (s .at) bs ++ b ∷ r ≡ spell us = sym (append-assoc (take (s .at) bs) (b ∷ []) r) ∙ ap (λ w. w ++ r) (sym g) ∙ e in
+        let k = completes-free grammar (the-rules ∷ []) (h .tokens) us (take (s .at) bs) (b ∷ r) (front, over) (j, f) in
+        let y : suc (length r) ≡ 0 = ap length (k .1) in
+        omega arith;
+    short = λ e. absurd (omega arith);
+  }
+
+  -- nothing after them
+  pub whole : length bs ≤ s .at → (xs : List Schema) × Are-rules xs bs × (s .parts ≡ parts xs) × (s .parts ≤ 8192)
+  whole l =
+      let (xs, w, e) = rules-in (h .tokens) over in
+      (xs, (sym (take-all (s .at) bs l) ∙ front ∙ ap spell e, w), h .counted ∙ ap (parts-in (the-rules ∷ [])) e ∙ rules-count xs, h .few)
