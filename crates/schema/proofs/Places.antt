@@ -17,7 +17,7 @@ use Rattle.cbor.proofs.Places.{part-length}
 use Rattle.sequence.specs.Token.{Token, num, str, spell, Shape, number, string, Word, Byte-string, Token-of}
 use Rattle.sequence.specs.Grammar.{next, Takes, Completes}
 use Rattle.sequence.specs.Reading.{Token-at, Spelled-at, Pending-stops}
-use Rattle.sequence.proofs.Grammars.{spelled-one, spelled-append, spelled-two, stop-first, stop-later}
+use Rattle.sequence.proofs.Grammars.{spelled-one, spelled-append, spelled-two, stop-first, stop-later, none-stands, same-token}
 use Rattle.schema.specs.declared.nodes.Schema.{Schema}
 use Rattle.schema.specs.declared.nodes.Schema.the-variants.{Literal}
 use Rattle.schema.specs.declared.nodes.Group.the-variants.{Repeat}
@@ -27,8 +27,30 @@ use Rattle.schema.specs.declared.nodes.Node.the-variants.{OfSchema, OfGroup, O
 use Rattle.schema.specs.declared.nodes.NextNode.{NextNode}
 use Rattle.schema.specs.Grammar.{Sort, a-rule, a-schema, a-group, the-fields, a-field, a-bound, a-last, a-literal, shape, many, after, after-schema, after-field, grammar}
 use Rattle.schema.specs.Nodes.{schema-own, in-schema, own-tokens, inside}
-use Rattle.schema.specs.Reading.{Range-at, Ranged, Numbered, Keyed, Of-sort, Rest-at, Node-at}
+use Rattle.schema.specs.Reading.{Range-at, Ranged, Numbered, Keyed, Of-sort, Whole, Stuck, Ceases, Rest-at, Node-at}
 use Rattle.schema.proofs.Trees.{completable, as-rule, as-schema}
+
+-- in the first token, or after it
+stuck-first : (s : Sort) (ss : List Sort) (bs : List ℕ) (at : ℕ) (stop : Stop) → Stopped (Any (Token-of (shape s))) bs at stop → Stuck (s ∷ ss) bs at
+unfolding Takes
+stuck-first s ss bs at stop h [] rest end f p w = refl
+stuck-first s ss bs at stop h (t ∷ vs) rest end (a, f) p w = absurd (none-stands (shape s) t vs bs at end stop a p h)
+
+stuck-later : (s : Sort) (ss : List Sort) (t : Token) (bs : List ℕ) (at mid : ℕ) → Token-at (shape s) t bs at mid → Stuck (next grammar s t ++ ss) bs mid → (Whole (next grammar s t ++ ss) → ⊥) → Stuck (s ∷ ss) bs at
+unfolding Takes
+stuck-later s ss t bs at mid x h o [] rest end f p w = refl
+stuck-later s ss t bs at mid x h o (u ∷ vs) rest end (a, f) p w =
+    let (e, q) = same-token (shape s) t u vs bs at mid end (x .0) a p in
+    let g = subst (λ y. Takes grammar (next grammar s y ++ ss) vs rest) (sym e) f in
+    let z = h vs rest end g q w in
+    let k : next grammar s t ++ ss ≡ rest = subst (λ y. Takes grammar (next grammar s t ++ ss) y rest) z g in
+    absurd (o (subst Whole (sym k) w))
+
+pub ceases-first : (s : Sort) (ss : List Sort) (bs : List ℕ) (at : ℕ) (stop : Stop) → Stopped (Any (Token-of (shape s))) bs at stop → Ceases (s ∷ ss) bs at stop
+ceases-first s ss bs at stop h = (stop-first grammar completable s ss bs at stop h, stuck-first s ss bs at stop h)
+
+ceases-later : (s : Sort) (ss : List Sort) (t : Token) (bs : List ℕ) (at mid : ℕ) (stop : Stop) → Token-at (shape s) t bs at mid → Ceases (next grammar s t ++ ss) bs mid stop → (Whole (next grammar s t ++ ss) → ⊥) → Ceases (s ∷ ss) bs at stop
+ceases-later s ss t bs at mid stop x (h, k) o = (stop-later grammar s ss t bs at mid stop (x .0) h, stuck-later s ss t bs at mid x k o)
 
 -- an opcode, and then the rest of the node
 pub node-whole : (s : Sort) (n : ℕ) (bs : List ℕ) (at mid : ℕ) (r : Result NextNode Stop) → Token-at (shape s) (num n) bs at mid → Rest-at s n bs mid r → Node-at s bs at r
@@ -36,7 +58,7 @@ unfolding Takes
 node-whole s n bs at mid (Ok x) t (o, ts, e, p, f) =
     let q = spelled-append (num n ∷ []) ts bs at mid (x .next) (spelled-one (shape s) (num n) bs at mid t) p in
     (o, (let a = t .1 in let b = p .0 in omega arith), subst (λ us. Spelled-at us bs at (x .next)) (sym e) q, λ ss. subst (λ us. Takes grammar (s ∷ ss) us (inside (x .node) ++ ss)) (sym e) (t .0 .2 .1, f ss))
-node-whole s n bs at mid (Err stop) t h = λ ss. stop-later grammar s ss (num n) bs at mid stop (t .0) (h ss)
+node-whole s n bs at mid (Err stop) t h = λ ss. ceases-later s ss (num n) bs at mid stop t (h ss .0) (h ss .1)
 
 -- nothing but the opcode
 pub rest-none : (s : Sort) (n : ℕ) (x : Node) (bs : List ℕ) (mid : ℕ) → mid ≤ length bs → Of-sort s x → own-tokens x ≡ num n ∷ [] → after s n ≡ inside x → Rest-at s n bs mid (Ok (record { node = x; next = mid }))
@@ -49,10 +71,10 @@ schema-none n x bs at mid t e f = node-whole a-schema n bs at mid (Ok (record { 
 -- TWO NUMBERS
 
 pub range-first : (bs : List ℕ) (at : ℕ) (stop : Stop) → Stopped (Any (Token-of number)) bs at stop → Range-at bs at (Err stop)
-range-first bs at stop h = λ ss. stop-first grammar completable a-bound (a-last ∷ ss) bs at stop h
+range-first bs at stop h = λ ss. ceases-first a-bound (a-last ∷ ss) bs at stop h
 
 pub range-second : (bs : List ℕ) (at mid n : ℕ) (stop : Stop) → Token-at number (num n) bs at mid → Stopped (Any (Token-of number)) bs mid stop → Range-at bs at (Err stop)
-range-second bs at mid n stop t h = λ ss. stop-later grammar a-bound (a-last ∷ ss) (num n) bs at mid stop (t .0) (stop-first grammar completable a-last ss bs mid stop h)
+range-second bs at mid n stop t h = λ ss. ceases-later a-bound (a-last ∷ ss) (num n) bs at mid stop t (ceases-first a-last ss bs mid stop h) (λ w. w)
 
 ranged-after : (n : ℕ) → 1 ≤ n → n ≤ 4 → after-schema n ≡ a-bound ∷ a-last ∷ []
 ranged-after zero h l = absurd (omega arith)
@@ -63,7 +85,7 @@ ranged-after (suc (suc (suc (suc zero)))) h l = refl
 ranged-after (suc (suc (suc (suc (suc n))))) h l = absurd (omega arith)
 
 pub ranged-stops : (n : ℕ) (bs : List ℕ) (at : ℕ) (stop : Stop) → 1 ≤ n → n ≤ 4 → Range-at bs at (Err stop) → Rest-at a-schema n bs at (Err stop)
-ranged-stops n bs at stop h l f = λ ss. subst (λ ys. Pending-stops grammar (ys ++ ss) bs at stop) (sym (ranged-after n h l)) (f ss)
+ranged-stops n bs at stop h l f = λ ss. subst (λ ys. Ceases (ys ++ ss) bs at stop × (Whole (ys ++ ss) → ⊥)) (sym (ranged-after n h l)) (f ss, λ w. w)
 
 none-inside : (x : Schema) → in-schema x .1 ≡ 0 → inside (OfSchema x) ≡ []
 unfolding many
@@ -78,7 +100,7 @@ unfolding Takes many
 repeat-there lo hi bs at end (a, b, p) = (refl, num lo ∷ num hi ∷ [], refl, p, λ ss. (a, (b, refl)))
 
 pub repeat-stops : (bs : List ℕ) (at : ℕ) (stop : Stop) → Range-at bs at (Err stop) → Rest-at a-group 4 bs at (Err stop)
-repeat-stops bs at stop f = λ ss. f (a-group ∷ ss)
+repeat-stops bs at stop f = λ ss. (f (a-group ∷ ss), λ w. w)
 
 -- ONE NUMBER
 
@@ -90,9 +112,9 @@ three n h l = elim (cases-eq n 8) [ inl e ↦ inl e | inr e ↦ elim (cases-eq n
 
 pub numbered-stops : (n : ℕ) (bs : List ℕ) (at : ℕ) (stop : Stop) → 8 ≤ n → n ≤ 10 → Stopped (Any (Token-of number)) bs at stop → Rest-at a-schema n bs at (Err stop)
 numbered-stops n bs at stop h l f = λ ss. elim (three n h l) [
-  | inl e ↦ subst (λ k. Pending-stops grammar (after-schema k ++ ss) bs at stop) (sym e) (stop-first grammar completable the-fields ss bs at stop f)
-  | inr (inl e) ↦ subst (λ k. Pending-stops grammar (after-schema k ++ ss) bs at stop) (sym e) (stop-first grammar completable a-last (a-schema ∷ ss) bs at stop f)
-  | inr (inr e) ↦ subst (λ k. Pending-stops grammar (after-schema k ++ ss) bs at stop) (sym e) (stop-first grammar completable a-last ss bs at stop f)
+  | inl e ↦ subst (λ k. Ceases (after-schema k ++ ss) bs at stop × (Whole (after-schema k ++ ss) → ⊥)) (sym e) (ceases-first the-fields ss bs at stop f, λ w. w)
+  | inr (inl e) ↦ subst (λ k. Ceases (after-schema k ++ ss) bs at stop × (Whole (after-schema k ++ ss) → ⊥)) (sym e) (ceases-first a-last (a-schema ∷ ss) bs at stop f, λ w. w)
+  | inr (inr e) ↦ subst (λ k. Ceases (after-schema k ++ ss) bs at stop × (Whole (after-schema k ++ ss) → ⊥)) (sym e) (ceases-first a-last ss bs at stop f, λ w. w)
 ]
 
 numbered-takes : (n k : ℕ) (x : Schema) (ss : List Sort) → 8 ≤ n → n ≤ 10 → Word k → Numbered n k x → Takes grammar (after-schema n ++ ss) (num k ∷ []) (inside (OfSchema x) ++ ss)
@@ -120,7 +142,7 @@ keyed-after (suc zero) h = refl
 keyed-after (suc (suc n)) h = absurd (omega arith)
 
 pub keyed-stops : (n : ℕ) (bs : List ℕ) (at : ℕ) (stop : Stop) → n ≤ 1 → Stopped (Any (Token-of string)) bs at stop → Rest-at a-field n bs at (Err stop)
-keyed-stops n bs at stop h f = λ ss. subst (λ ys. Pending-stops grammar (ys ++ ss) bs at stop) (sym (keyed-after n h)) (stop-first grammar completable a-literal (a-schema ∷ ss) bs at stop f)
+keyed-stops n bs at stop h f = λ ss. subst (λ ys. Ceases (ys ++ ss) bs at stop × (Whole (ys ++ ss) → ⊥)) (sym (keyed-after n h)) (ceases-first a-literal (a-schema ∷ ss) bs at stop f, λ w. w)
 
 pub keyed-there : (n : ℕ) (k : List ℕ) (bs : List ℕ) (at end : ℕ) (x : Field) → n ≤ 1 → Token-at string (str k) bs at end → Keyed n k x → Rest-at a-field n bs at (Ok (record { node = OfField x; next = end }))
 unfolding Takes many
@@ -155,4 +177,8 @@ rule-node bs at (Ok x) (o, l, p, f) = (of-rule (x .node) o, l, p, λ ss. takes-a
     of-rule (OfSchema y) o = inr refl
     of-rule (OfGroup y) o = absurd (let z : _≡_ {A = ℕ} 0 1 = cc in omega arith)
     of-rule (OfField y) o = absurd (let z : _≡_ {A = ℕ} 0 1 = cc in omega arith)
-rule-node bs at (Err stop) h = λ ss. (h ss .0, stops-same (Any (Completes grammar (a-schema ∷ ss))) (Any (Completes grammar (a-rule ∷ ss))) (to-rule ss) (from-rule ss) (drop at bs) (stop .place - at) (stop .least - at) (h ss .1))
+rule-node bs at (Err stop) h = λ ss. ((h ss .0 .0, stops-same (Any (Completes grammar (a-schema ∷ ss))) (Any (Completes grammar (a-rule ∷ ss))) (to-rule ss) (from-rule ss) (drop at bs) (stop .place - at) (stop .least - at) (h ss .0 .1)), stuck-rule ss (h ss .1))
+  where
+    stuck-rule : (ss : List Sort) → Stuck (a-schema ∷ ss) bs at → Stuck (a-rule ∷ ss) bs at
+    stuck-rule ss f [] rest end g p w = refl
+    stuck-rule ss f (t ∷ vs) rest end g p w = f (t ∷ vs) rest end (as-schema ss rest t vs g) p w

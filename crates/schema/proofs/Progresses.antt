@@ -1,43 +1,97 @@
 -- Reading rules, node by node.
 use mathlib.Core.Path.{_≡_, refl, sym, ap, subst, _∙_}
+use mathlib.Core.Logic.{inl, inr}
 use mathlib.Core.List.{List, [], _∷_, _++_, append-assoc}
-use Prim.Native.Nat.{ℕ, suc, _+_, _*_, _-_, _<_, _≤_}
+use Prim.Native.Nat.{ℕ, zero, suc, _+_, _*_, _-_, _<_, _≤_}
 use native.Mathlib.Omega.{arith}
 use lib.ListN.{length, getD, take}
 use Rattle.std.specs.declared.result.Result.the-variants.{Ok, Err}
 use Rattle.std.proofs.shelf.Lists.{append-nil, take-all, take-more}
 use Rattle.cbor.specs.declared.reading.Stop.{Stop}
-use Rattle.cbor.specs.Prefix.{Any, Stops}
+use Rattle.cbor.specs.Prefix.{Any as Any-of, Stops}
 use Rattle.cbor.specs.Reading.{Stopped}
 use Rattle.sequence.specs.Token.{Token, num, spell, number, Token-of}
 use Rattle.sequence.specs.Grammar.{Takes, Completes}
 use Rattle.sequence.specs.Reading.{Token-at, Spelled-at, Pending-stops}
-use Rattle.sequence.proofs.Grammars.{takes-append, completes-free, spelled-one, spelled-append, stop-first, stop-after}
+use Rattle.sequence.proofs.Grammars.{takes-append, completes-free, spelled-one, spelled-append, stop-after, one-begins}
 use Rattle.schema.specs.declared.nodes.NextNode.{NextNode}
+use Rattle.schema.specs.declared.nodes.Schema.the-variants.{Any, Unsigned, Negative, ByteLength, TextLength, Literal, Choice, Array, Map, Tag, Rule}
+use Rattle.schema.specs.declared.nodes.Group.the-variants.{Empty, One, Sequence, FirstOf, Repeat}
+use Rattle.schema.specs.declared.nodes.Field.the-variants.{Required, Optional, Others}
 use Rattle.schema.specs.declared.nodes.Node.{Node}
+use Rattle.schema.specs.declared.nodes.Node.the-variants.{OfSchema, OfGroup, OfField}
 use Rattle.schema.specs.declared.nodes.Run.{Run}
 use Rattle.schema.specs.declared.nodes.Sort.{Sort as Node-sort}
 use Rattle.schema.specs.declared.reading.Progress.{Progress}
 use Rattle.schema.specs.Rules.{Schema, Are-rules, parts}
 use Rattle.schema.specs.Grammar.{Sort, the-rules, a-rule, many, grammar, parts-in}
 use Rattle.schema.specs.Nodes.{own-tokens, sort-of, in-node, inside, run-of, string-in, rule-part}
-use Rattle.schema.specs.Reading.{Node-at}
-use Rattle.schema.specs.Stacks.{pending}
+use Rattle.schema.specs.Reading.{Opens, Whole, Stuck, Node-at}
+use Rattle.schema.specs.Stacks.{number-sort, pending}
 use Rattle.schema.specs.Verdict.{Too-many, Wrong-at, Reached}
-use Rattle.schema.proofs.Trees.{completable, rules-in, are-completes, completes-are}
+use Rattle.schema.proofs.Trees.{rules-in, are-completes, completes-are}
+use Rattle.schema.proofs.Places.{ceases-first}
 use Rattle.schema.proofs.Parts.{parts-append, rules-count, node-weighs}
 
 -- where pending rules stop, they are wrong
 pub wrong-from : (bs : List ℕ) (stop : Stop) → Pending-stops grammar (the-rules ∷ []) bs 0 stop → Wrong-at bs (stop .place)
 wrong-from bs stop (h, t) =
     let z : stop .place - 0 ≡ stop .place = omega arith in
-    let s = subst (λ p. Stops (Any (Completes grammar (the-rules ∷ []))) bs p (stop .least - 0)) z t in
+    let s = subst (λ p. Stops (Any-of (Completes grammar (the-rules ∷ []))) bs p (stop .least - 0)) z t in
     record {
       within = s .within;
       begins = (let (r, c) = s .begins in (r, completes-are (take (stop .place) bs ++ r) c));
       ends = λ l (r, c). s .ends l (r, are-completes (take (suc (stop .place)) bs ++ r) c);
       short = λ e a. s .unread bs [] (are-completes bs a) (sym (append-nil bs));
     }
+
+-- with no more parts than those read, and no node that can follow, there are not too many
+not-too-many : (bs : List ℕ) (ts : List Token) (rest : List Sort) (end : ℕ) → Takes grammar (the-rules ∷ []) ts rest → Spelled-at ts bs 0 end → parts-in (the-rules ∷ []) ts ≤ 8192 → Stuck rest bs end → Too-many bs → ⊥
+not-too-many bs ts rest end f p l stuck (us, other, last, q, g, w, m) =
+    elim (one-begins grammar (the-rules ∷ []) rest other ts us bs 0 end last f g p q) [
+      | inl (vs, e, t, o) ↦
+          let z = stuck vs other last t o w in
+          omega (arith, ap (parts-in (the-rules ∷ [])) (e ∙ ap (λ y. ts ++ y) z ∙ append-nil ts))
+      | inr (vs, e, t) ↦ omega (arith, ap (parts-in (the-rules ∷ [])) e, parts-append (the-rules ∷ []) other us vs g)
+    ]
+
+-- after an opened node others of the same kind may come
+whole-many : (k : ℕ) (s : Sort) (ss : List Sort) → Opens s → Whole ss → Whole (many k s ++ ss)
+unfolding many
+whole-many zero s ss o w = w
+whole-many (suc k) s ss o w = o
+
+whole-pending : (stack : List ℕ) (k : ℕ) → Whole (pending stack k)
+unfolding pending
+whole-pending stack zero = tt
+whole-pending stack (suc k) = whole-many (getD stack (2 * k + 1) 0) (number-sort (getD stack (2 * k) 0)) (pending stack k) (opens (getD stack (2 * k) 0)) (whole-pending stack k)
+  where
+    opens : (n : ℕ) → Opens (number-sort n)
+    opens zero = tt
+    opens (suc zero) = tt
+    opens (suc (suc zero)) = tt
+    opens (suc (suc (suc n))) = tt
+
+opens-inside : (x : Node) → Opens (in-node x .0)
+opens-inside (OfSchema Any) = tt
+opens-inside (OfSchema (Unsigned lo hi)) = tt
+opens-inside (OfSchema (Negative lo hi)) = tt
+opens-inside (OfSchema (ByteLength lo hi)) = tt
+opens-inside (OfSchema (TextLength lo hi)) = tt
+opens-inside (OfSchema (Literal item)) = tt
+opens-inside (OfSchema Choice) = tt
+opens-inside (OfSchema Array) = tt
+opens-inside (OfSchema (Map count)) = tt
+opens-inside (OfSchema (Tag n)) = tt
+opens-inside (OfSchema (Rule n)) = tt
+opens-inside (OfGroup Empty) = tt
+opens-inside (OfGroup One) = tt
+opens-inside (OfGroup Sequence) = tt
+opens-inside (OfGroup FirstOf) = tt
+opens-inside (OfGroup (Repeat lo hi)) = tt
+opens-inside (OfField (Required key)) = tt
+opens-inside (OfField (Optional key)) = tt
+opens-inside (OfField Others) = tt
 
 module _ (bs stack : List ℕ) (s : Progress) (h : Reached bs stack s) where
   -- an empty run on top
@@ -56,8 +110,8 @@ module _ (bs stack : List ℕ) (s : Progress) (h : Reached bs stack s) where
     one-pending = subst (λ ss. Takes grammar (the-rules ∷ []) (h .tokens) ss) top (h .takes)
 
     -- no node there
-    pub no-node : (stop : Stop) → Node-at (sort-of q) bs (s .at) (Err stop) → Wrong-at bs (stop .place)
-    no-node stop f = wrong-from bs stop (stop-after grammar (the-rules ∷ []) (sort-of q ∷ pending taken (s .depth)) (h .tokens) bs 0 (s .at) stop one-pending (h .spelled) (f (pending taken (s .depth))))
+    pub no-node : (stop : Stop) → Node-at (sort-of q) bs (s .at) (Err stop) → Wrong-at bs (stop .place) × (Too-many bs → ⊥)
+    no-node stop f = (wrong-from bs stop (stop-after grammar (the-rules ∷ []) (sort-of q ∷ pending taken (s .depth)) (h .tokens) bs 0 (s .at) stop one-pending (h .spelled) (f (pending taken (s .depth)) .0)), not-too-many bs (h .tokens) (sort-of q ∷ pending taken (s .depth)) (s .at) one-pending (h .spelled) (let z = h .few in let y = h .counted in omega arith) (f (pending taken (s .depth)) .1))
 
     -- one there
     module _ (x : NextNode) (node : Node-at (sort-of q) bs (s .at) (Ok x)) where
@@ -74,7 +128,7 @@ module _ (bs stack : List ℕ) (s : Progress) (h : Reached bs stack s) where
       counting = parts-append (the-rules ∷ []) (sort-of q ∷ pending taken (s .depth)) (h .tokens) (own-tokens (x .node)) one-pending ∙ (λ i. sym (h .counted) i + node-weighs q (x .node) (pending taken (s .depth)) (node .0) i)
 
       pub too-many : 8192 < s .parts + (rule-part q + (1 + string-in (x .node))) → Too-many bs
-      too-many l = (h .tokens ++ own-tokens (x .node), inside (x .node) ++ pending taken (s .depth), x .next, spelled, taking, subst (λ n. 8192 < n) (sym counting) l)
+      too-many l = (h .tokens ++ own-tokens (x .node), inside (x .node) ++ pending taken (s .depth), x .next, spelled, taking, whole-many (in-node (x .node) .1) (in-node (x .node) .0) (pending taken (s .depth)) (opens-inside (x .node)) (whole-pending taken (s .depth)), subst (λ n. 8192 < n) (sym counting) l)
 
       pub one-node : (new : List ℕ) (r : Run) (n : ℕ) → run-of r ≡ in-node (x .node) → pending new (s .depth + 1) ≡ many (r .count) (sort-of (r .sort)) ++ pending taken (s .depth) → n ≡ s .parts + (rule-part q + (1 + string-in (x .node))) → n ≤ 8192 → Reached bs new (record { at = x .next; depth = s .depth + 1; parts = n })
       one-node new r n e p m l = record {
@@ -88,8 +142,11 @@ module _ (bs stack : List ℕ) (s : Progress) (h : Reached bs stack s) where
 
 -- THE BEGINNING AND THE END
 
-pub no-number : (bs : List ℕ) (stop : Stop) → Stopped (Any (Token-of number)) bs 0 stop → Wrong-at bs (stop .place)
-no-number bs stop h = wrong-from bs stop (stop-first grammar completable the-rules [] bs 0 stop h)
+pub no-number : (bs : List ℕ) (stop : Stop) → Stopped (Any-of (Token-of number)) bs 0 stop → Wrong-at bs (stop .place) × (Too-many bs → ⊥)
+unfolding Takes spell parts-in
+no-number bs stop h =
+    let (p, stuck) = ceases-first the-rules [] bs 0 stop h in
+    (wrong-from bs stop p, not-too-many bs [] (the-rules ∷ []) 0 refl (omega arith, omega arith, refl) (omega arith) stuck)
 
 pub begun : (bs stack : List ℕ) (n end : ℕ) → Token-at number (num n) bs 0 end → pending stack 1 ≡ many n a-rule ++ [] → Reached bs stack (record { at = end; depth = 1; parts = 0 })
 unfolding Takes parts-in
@@ -111,8 +168,13 @@ module _ (bs stack : List ℕ) (s : Progress) (h : Reached bs stack s) (z : s .d
   front = ap (λ k. take k bs) (let y : s .at ≡ s .at - 0 = omega arith in y) ∙ h .spelled .2
 
   -- bytes after the rules
-  pub trailing : s .at < length bs → Wrong-at bs (s .at)
-  trailing l = record {
+  nothing-more : Stuck [] bs (s .at)
+  unfolding Takes
+  nothing-more [] rest end f p w = refl
+  nothing-more (t ∷ vs) rest end f p w = absurd f
+
+  wrong-after : s .at < length bs → Wrong-at bs (s .at)
+  wrong-after l = record {
     within = omega arith;
     begins = ([], completes-are (take (s .at) bs ++ []) (h .tokens, (append-nil (take (s .at) bs) ∙ front, over)));
     ends = λ _ (r, a).
@@ -125,6 +187,9 @@ module _ (bs stack : List ℕ) (s : Progress) (h : Reached bs stack s) (z : s .d
         omega arith;
     short = λ e. absurd (omega arith);
   }
+
+  pub trailing : s .at < length bs → Wrong-at bs (s .at) × (Too-many bs → ⊥)
+  trailing l = (wrong-after l, not-too-many bs (h .tokens) [] (s .at) over (h .spelled) (let y = h .few in let x = h .counted in omega arith) nothing-more)
 
   -- nothing after them
   pub whole : length bs ≤ s .at → (xs : List Schema) × Are-rules xs bs × (s .parts ≡ parts xs) × (s .parts ≤ 8192)

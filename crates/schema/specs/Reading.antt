@@ -17,12 +17,36 @@ use Rattle.schema.specs.declared.nodes.Range.{Range}
 use Rattle.schema.specs.declared.nodes.Schema.{Schema}
 use Rattle.schema.specs.declared.nodes.Group.{Group}
 use Rattle.schema.specs.declared.nodes.Field.{Field}
-use Rattle.schema.specs.Grammar.{Sort, a-rule, a-schema, a-group, a-field, a-bound, a-last, many, after-group, after, grammar}
+use Rattle.schema.specs.Grammar.{Sort, the-rules, a-rule, a-schema, a-group, the-fields, a-field, a-bound, a-last, a-literal, many, after-group, after, grammar}
 use Rattle.schema.specs.Nodes.{schema-own, in-schema, group-own, in-group, field-own, in-field, own-tokens, inside}
+
+-- what is pending begins with a node, and not inside one
+abbrev pub Opens : Sort → Type 0
+Opens the-rules = ⊥
+Opens a-rule = Unit {0}
+Opens a-schema = Unit {0}
+Opens a-group = Unit {0}
+Opens the-fields = ⊥
+Opens a-field = Unit {0}
+Opens a-bound = ⊥
+Opens a-last = ⊥
+Opens a-literal = ⊥
+
+abbrev pub Whole : List Sort → Type 0
+Whole [] = Unit {0}
+Whole (s ∷ ss) = Opens s
+
+-- no tokens that stand there are whole nodes
+abbrev pub Stuck : List Sort → List ℕ → ℕ → Type 0
+Stuck ss bs at = (vs : List Token) (rest : List Sort) (end : ℕ) → Takes grammar ss vs rest → Spelled-at vs bs at end → Whole rest → vs ≡ []
+
+-- bytes cease to begin what is pending, before a node of it is whole
+abbrev pub Ceases : List Sort → List ℕ → ℕ → Stop → Type 0
+Ceases ss bs at stop = Pending-stops grammar ss bs at stop × Stuck ss bs at
 
 abbrev pub Range-at : List ℕ → ℕ → Result Range Stop → Type 0
 Range-at bs at (Ok r) = Word (r .low) × Word (r .high) × Spelled-at (num (r .low) ∷ num (r .high) ∷ []) bs at (r .next)
-Range-at bs at (Err s) = (ss : List Sort) → Pending-stops grammar (a-bound ∷ a-last ∷ ss) bs at s
+Range-at bs at (Err s) = (ss : List Sort) → Ceases (a-bound ∷ a-last ∷ ss) bs at s
 
 -- a node of a sort
 abbrev pub Of-sort : Sort → Node → Type 0
@@ -33,12 +57,12 @@ Of-sort s (OfField x) = s ≡ a-field
 -- its own tokens stand there, and take the sort to what is in the node
 abbrev pub Node-at : Sort → List ℕ → ℕ → Result NextNode Stop → Type 0
 Node-at s bs at (Ok x) = Of-sort s (x .node) × (at < x .next) × Spelled-at (own-tokens (x .node)) bs at (x .next) × ((ss : List Sort) → Takes grammar (s ∷ ss) (own-tokens (x .node)) (inside (x .node) ++ ss))
-Node-at s bs at (Err stop) = (ss : List Sort) → Pending-stops grammar (s ∷ ss) bs at stop
+Node-at s bs at (Err stop) = (ss : List Sort) → Ceases (s ∷ ss) bs at stop
 
 -- the same after a node's opcode
 abbrev pub Rest-at : Sort → ℕ → List ℕ → ℕ → Result NextNode Stop → Type 0
 Rest-at s n bs at (Ok x) = Of-sort s (x .node) × (ts : List Token) × (own-tokens (x .node) ≡ num n ∷ ts) × Spelled-at ts bs at (x .next) × ((ss : List Sort) → Takes grammar (after s n ++ ss) ts (inside (x .node) ++ ss))
-Rest-at s n bs at (Err stop) = (ss : List Sort) → Pending-stops grammar (after s n ++ ss) bs at stop
+Rest-at s n bs at (Err stop) = (ss : List Sort) → Ceases (after s n ++ ss) bs at stop × (Whole (after s n ++ ss) → ⊥)
 
 -- a schema with two numbers, or with one, by its opcode
 abbrev pub Ranged : ℕ → ℕ → ℕ → Schema → Type 0

@@ -14,11 +14,12 @@ use Rattle.schema.specs.declared.reading.NoRules.{NoRules}
 use Rattle.schema.specs.declared.reading.NoRules.the-variants.{TooLittleLent, TooLarge, Wrong}
 use Rattle.schema.specs.Rules.{Schema, Are-rules, Writable, write, parts}
 use Rattle.schema.specs.Grammar.{Sort, the-rules, grammar, parts-in}
+use Rattle.schema.specs.Reading.{Whole}
 use Rattle.schema.specs.Stacks.{pending}
 
--- more than 8,192 parts stand before the first byte that isn't rules
+-- more than 8,192 parts stand before the first byte that isn't rules, in whole nodes
 abbrev pub Too-many : List ℕ → Type 0
-Too-many bs = (ts : List Token) × (rest : List Sort) × (end : ℕ) × Spelled-at ts bs 0 end × Takes grammar (the-rules ∷ []) ts rest × (8192 < parts-in (the-rules ∷ []) ts)
+Too-many bs = (ts : List Token) × (rest : List Sort) × (end : ℕ) × Spelled-at ts bs 0 end × Takes grammar (the-rules ∷ []) ts rest × Whole rest × (8192 < parts-in (the-rules ∷ []) ts)
 
 -- the place: the first byte with which no rules begin (the first byte after they are complete is one), or the end if all of the bytes are only a beginning
 pub record Wrong-at (bs : List ℕ) (place : ℕ) : Type 0 where
@@ -39,7 +40,7 @@ pub record Reached (bs stack : List ℕ) (s : Progress) : Type 0 where
 abbrev pub Refused : List ℕ → NoRules → Type 0
 Refused bs TooLittleLent = ⊥
 Refused bs TooLarge = Too-many bs
-Refused bs (Wrong place) = Wrong-at bs place
+Refused bs (Wrong place) = Wrong-at bs place × (Too-many bs → ⊥)
 
 -- one node more, or an empty run less
 abbrev pub Advances : List ℕ → Progress → List ℕ → Result Progress NoRules → Type 0
@@ -56,4 +57,4 @@ abbrev pub Rules-told : ℕ → List ℕ → Result ℕ NoRules → Type 0
 Rules-told lent bs (Ok n) = (16388 ≤ lent) × Rules-at bs (Ok n)
 Rules-told lent bs (Err TooLittleLent) = lent < 16388
 Rules-told lent bs (Err TooLarge) = (16388 ≤ lent) × Too-many bs
-Rules-told lent bs (Err (Wrong place)) = (16388 ≤ lent) × Wrong-at bs place
+Rules-told lent bs (Err (Wrong place)) = (16388 ≤ lent) × (Wrong-at bs place × (Too-many bs → ⊥))

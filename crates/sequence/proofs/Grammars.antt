@@ -1,5 +1,6 @@
 -- Tokens one after the other, by a grammar.
 use mathlib.Core.Path.{_≡_, refl, sym, ap, subst, _∙_}
+use mathlib.Core.Logic.{_⊎_, inl, inr}
 use mathlib.Core.Bool.{true}
 use mathlib.Core.List.{List, [], _∷_, _++_, append-assoc}
 use Prim.Native.Nat.{ℕ, _+_, _-_, _<_, _≤_}
@@ -12,7 +13,7 @@ use Rattle.cbor.specs.Prefix.{Any, Prefix-free, Then, Stops, Stops-at, Stands-a
 use Rattle.cbor.specs.Reading.{Stopped}
 use Rattle.cbor.proofs.Numbers.{bytes-append}
 use Rattle.cbor.proofs.Words.{free-two, stops-same}
-use Rattle.cbor.proofs.Places.{part-join, part-split, part-length, stops-at-first, stops-at-later}
+use Rattle.cbor.proofs.Places.{part-rest, part-join, part-split, part-length, stops-at-first, stops-at-later}
 use Rattle.sequence.specs.Token.{Token, num, str, token-bytes, spell, Shape, Suits, Token-of}
 use Rattle.sequence.specs.Grammar.{Grammar, next, Takes, Completes, Completable}
 use Rattle.sequence.specs.Reading.{Token-at, Spelled-at, Pending-stops}
@@ -108,3 +109,43 @@ spelled-append ts us bs at mid end (h, k, e) (i, j, f) = (omega arith, j, part-j
 
 pub spelled-two : (s r : Shape) (t u : Token) (bs : List ℕ) (at mid end : ℕ) → Token-at s t bs at mid → Token-at r u bs mid end → Spelled-at (t ∷ u ∷ []) bs at end
 spelled-two s r t u bs at mid end a b = spelled-append (t ∷ []) (u ∷ []) bs at mid end (spelled-one s t bs at mid a) (spelled-one r u bs mid end b)
+
+-- a token at the front of what stands at a place
+front-token : (t : Token) (ts : List Token) (bs : List ℕ) (at end : ℕ) → Spelled-at (t ∷ ts) bs at end → (at + length (token-bytes t) ≤ end) × (drop at bs ≡ token-bytes t ++ drop (at + length (token-bytes t)) bs) × Spelled-at ts bs (at + length (token-bytes t)) end
+unfolding spell
+front-token t ts bs at end (h, k, e) =
+    let (m, u, v) = part-split bs (token-bytes t) (spell ts) at end h k e in
+    (m, part-rest bs at (at + length (token-bytes t)) (omega arith) ∙ ap (λ x. x ++ drop (at + length (token-bytes t)) bs) u, (m, k, v))
+
+-- no token stands where bytes cease to begin one
+pub none-stands : (s : Shape) (t : Token) (ts : List Token) (bs : List ℕ) (at end : ℕ) (stop : Stop) → Suits s t → Spelled-at (t ∷ ts) bs at end → Stopped (Any (Token-of s)) bs at stop → ⊥
+none-stands s t ts bs at end stop a p (l, h) = let (m, e, q) = front-token t ts bs at end p in h .unread (token-bytes t) (drop (at + length (token-bytes t)) bs) (t, (refl, a)) e
+
+-- the same token stands there
+pub same-token : (s : Shape) (t u : Token) (us : List Token) (bs : List ℕ) (at mid end : ℕ) → Stands-at (Token-of s t) bs at mid → Suits s u → Spelled-at (u ∷ us) bs at end → (t ≡ u) × Spelled-at us bs mid end
+same-token s t u us bs at mid end (h, k, (x, a)) b p =
+    let (m, e, q) = front-token u us bs at end p in
+    let f = free-two (Token-of s) (token-free s) t u (token-bytes t) (token-bytes u) (drop mid bs) (drop (at + length (token-bytes u)) bs) (refl, a) (refl, b) (ap (λ w. w ++ drop mid bs) (sym x) ∙ sym (part-rest bs at mid h) ∙ e) in
+    let z : at + length (token-bytes u) ≡ mid = (let y = part-length bs at mid h k in let n = ap length x in let j = ap length (f .1) in omega arith) in
+    (f .0, subst (λ n. Spelled-at us bs n end) z q)
+
+module _ {S : Type 0} (G : Grammar S) where
+  -- tokens that stand at one place begin with one another
+  pub one-begins : (ss ra rb : List S) (ts us : List Token) (bs : List ℕ) (at ea eb : ℕ) → Takes G ss ts ra → Takes G ss us rb → Spelled-at ts bs at ea → Spelled-at us bs at eb → ((vs : List Token) × (us ≡ ts ++ vs) × Takes G ra vs rb × Spelled-at vs bs ea eb) ⊎ ((vs : List Token) × (ts ≡ us ++ vs) × Takes G rb vs ra)
+  unfolding Takes spell
+  one-begins ss ra rb [] us bs at ea eb f g (h, k, e) q =
+      let z : at ≡ ea = (let y : ea - at ≡ 0 = sym (part-length bs at ea h k) ∙ ap length e in omega arith) in
+      inl (us, refl, subst (λ x. Takes G x us rb) f g, subst (λ x. Spelled-at us bs x eb) z q)
+  one-begins ss ra rb (t ∷ ts) [] bs at ea eb f g p q = inr (t ∷ ts, refl, subst (λ x. Takes G x (t ∷ ts) ra) g f)
+  one-begins [] ra rb (t ∷ ts) (u ∷ us) bs at ea eb f g p q = absurd f
+  one-begins (s ∷ ss) ra rb (t ∷ ts) (u ∷ us) bs at ea eb (a, f) (b, g) p q =
+      let mid = at + length (token-bytes t) in
+      let (m, e, r) = front-token t ts bs at ea p in
+      let (h, k, x) = p in
+      let (n, y, w) = part-split bs (token-bytes t) (spell ts) at ea h k x in
+      let (i, v) = same-token (G .shape s) t u us bs at mid eb (omega arith, omega arith, (y, a)) b q in
+      let g′ = subst (λ x. Takes G (next G s x ++ ss) us rb) (sym i) g in
+      elim (one-begins (next G s t ++ ss) ra rb ts us bs mid ea eb f g′ r v) [
+        | inl (vs, c, d, o) ↦ inl (vs, (let z : u ∷ us ≡ t ∷ (ts ++ vs) = cc in z), d, o)
+        | inr (vs, c, d) ↦ inr (vs, (let z : t ∷ ts ≡ u ∷ (us ++ vs) = cc in z), d)
+      ]

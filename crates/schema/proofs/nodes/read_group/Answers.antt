@@ -4,18 +4,16 @@ use Rattle.std.proofs.shelf.Results.{err-from-errBy}
 use Rattle.std.specs.declared.result.Result.the-variants.{Ok}
 use Rattle.sequence.specs.Token.{num, opcode}
 use Rattle.sequence.specs.Reading.{Token-at}
-use Rattle.sequence.proofs.Grammars.{stop-first}
 use Rattle.schema.specs.declared.nodes.Node.the-variants.{OfGroup}
-use Rattle.schema.specs.Grammar.{a-group, grammar}
-use Rattle.schema.proofs.Trees.{completable}
-use Rattle.schema.proofs.Places.{node-whole, rest-none}
+use Rattle.schema.specs.Grammar.{a-group}
+use Rattle.schema.proofs.Places.{ceases-first, node-whole, rest-none}
 use Rattle.schema.proofs.nodes.read_group.Needs as need
 
 pub returns-in-Break-opcode : need.returns-in-Break-opcode
 returns-in-Break-opcode c =
     let p = err-from-errBy (c .from-residual .result) (c .from-residual .ensures .1) in
     let s = c .in-Break-opcode .field-0 .0 in
-    rw (p .1, p .2) (λ ss. stop-first grammar completable a-group ss (c .args .bytes .now) (c .args .at) s (c .in-Break-opcode .ensures tt))
+    rw (p .1, p .2) (λ ss. ceases-first a-group ss (c .args .bytes .now) (c .args .at) s (c .in-Break-opcode .ensures tt))
 
 pub returns-then-opcode-eq4 : need.returns-then-opcode-eq4
 returns-then-opcode-eq4 c =

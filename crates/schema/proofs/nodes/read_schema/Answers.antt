@@ -3,18 +3,16 @@ use native.Mathlib.Omega.{arith}
 use Rattle.std.proofs.shelf.Results.{err-from-errBy}
 use Rattle.sequence.specs.Token.{num, opcode}
 use Rattle.sequence.specs.Reading.{Token-at}
-use Rattle.sequence.proofs.Grammars.{stop-first}
 use Rattle.schema.specs.declared.nodes.Schema.the-variants.{Any, Choice, Array}
-use Rattle.schema.specs.Grammar.{a-schema, many, grammar}
-use Rattle.schema.proofs.Trees.{completable}
-use Rattle.schema.proofs.Places.{node-whole, schema-none}
+use Rattle.schema.specs.Grammar.{a-schema, many}
+use Rattle.schema.proofs.Places.{ceases-first, node-whole, schema-none}
 use Rattle.schema.proofs.nodes.read_schema.Needs as need
 
 pub returns-in-Break-opcode : need.returns-in-Break-opcode
 returns-in-Break-opcode c =
     let p = err-from-errBy (c .from-residual .result) (c .from-residual .ensures .1) in
     let s = c .in-Break-opcode .field-0 .0 in
-    rw (p .1, p .2) (λ ss. stop-first grammar completable a-schema ss (c .args .bytes .now) (c .args .at) s (c .in-Break-opcode .ensures tt))
+    rw (p .1, p .2) (λ ss. ceases-first a-schema ss (c .args .bytes .now) (c .args .at) s (c .in-Break-opcode .ensures tt))
 
 pub returns-in-0 : need.returns-in-0
 unfolding many
