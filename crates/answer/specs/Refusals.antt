@@ -9,17 +9,20 @@ use Rattle.std.specs.declared.option.Option.{Option}
 use Rattle.std.specs.declared.option.Option.the-variants.{Some, None}
 use Rattle.request.specs.declared.answers.Refusal.{Refusal}
 use Rattle.request.specs.declared.answers.Refusal.the-variants.{NotARequest, TooLarge, Unsound, Circular, NotOneItem, NotOffered}
-use Rattle.request.specs.Asked.{Asked, check, find}
+use Rattle.request.specs.Asked.{Asked, check, find, fit}
+use Rattle.schema.specs.Verdict.{Too-many}
 use Rattle.answer.specs.declared.refusals.Offered.{Offered}
 
 abbrev pub offers : Offered → Asked → Bool
 offers o (check item) = o .check
 offers o (find path item) = o .find
+offers o (fit rules which item) = o .fit
 
--- a path of more than 32 steps, or 2^60 bytes or more
+-- a path of more than 32 steps, rules of more than 8,192 parts, or 2^60 bytes or more
 abbrev pub Too-large : Asked → Type 0
 Too-large (check item) = 1152921504606846976 ≤ length item
 Too-large (find path item) = (32 < length path) ⊎ (1152921504606846976 ≤ length item)
+Too-large (fit rules which item) = Too-many rules ⊎ (1152921504606846976 ≤ length item)
 
 -- the last three speak of items and of rules, of which no request asks yet
 abbrev pub Applies : Offered → Refusal → Asked → Type 0

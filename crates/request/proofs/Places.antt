@@ -11,17 +11,18 @@ use Rattle.cbor.specs.declared.reading.Stop.{Stop}
 use Rattle.cbor.specs.Prefix.{Any, Stops, Stands-at}
 use Rattle.cbor.specs.Reading.{Stopped}
 use Rattle.cbor.proofs.Places.{part-length}
+use Rattle.std.proofs.shelf.Lists.{take-at}
 use Rattle.sequence.specs.Token.{Token, num, str, token-bytes, spell, Shape, opcode, number, string, Word, Token-of}
 use Rattle.sequence.specs.Grammar.{next, Takes, Completes}
 use Rattle.sequence.specs.Reading.{Token-at, Spelled-at, Pending-stops}
-use Rattle.sequence.proofs.Grammars.{spelled-one, spelled-append, stop-first, stop-later, stop-after}
+use Rattle.sequence.proofs.Grammars.{spelled-one, spelled-append, spelled-two, stop-first, stop-later, stop-after, none-stands, same-token}
 use Rattle.request.specs.declared.reading.Path.{Path}
 use Rattle.request.specs.declared.reading.Request.{Request}
-use Rattle.request.specs.declared.reading.Request.the-variants.{Check, Find}
+use Rattle.request.specs.declared.reading.Request.the-variants.{Check, Find, Fit}
 use Rattle.request.specs.declared.reading.Taken.{Taken}
-use Rattle.request.specs.Asked.{Step, index, key, content, Asked, check, find, step-tokens, path-tokens, tokens, write, Writable-step, Writable-path, Writable, Is-request}
+use Rattle.request.specs.Asked.{Step, index, key, content, Asked, check, find, fit, step-tokens, path-tokens, tokens, write, Writable-step, Writable-path, Writable, Is-request}
 use Rattle.request.specs.Grammar.{Sort, a-request, a-path, a-step, a-number, a-string, many, shape, after-request, requests}
-use Rattle.request.specs.Reading.{Means, Path-at, Rest-at, Request-at, Is-read, Reads-back}
+use Rattle.request.specs.Reading.{Means, Path-at, Rest-at, Request-at, Is-read, Reads-back, Rules-there}
 use Rattle.request.proofs.Requests.{completable, step-takes, path-takes, request-takes, stops-request, one-way}
 
 -- PATHS
@@ -62,6 +63,48 @@ find-item-stops bs at mid from n stop c (ps, l, w, p) s =
     stop-later requests a-path (a-string ∷ []) (num n) bs at mid stop (c .0)
     (subst (λ k. Pending-stops requests (many k a-step ++ a-string ∷ []) bs mid stop) l (stop-after requests (many (length ps) a-step ++ a-string ∷ []) (a-string ∷ []) (path-tokens ps) bs mid from stop (path-takes ps (a-string ∷ []) w) p s))
 
+pub fit-there : (bs : List ℕ) (at mid from end n : ℕ) (rules item : RefT (List ℕ)) → Token-at string (str (now rules)) bs at mid → Token-at number (num n) bs mid from → Token-at string (str (now item)) bs from end → Rest-at 2 (after-request 2) bs at (Ok (record { request = Fit rules n item; took = end }))
+fit-there bs at mid from end n rules item r c t =
+    (fit (now rules) n (now item), str (now rules) ∷ num n ∷ str (now item) ∷ [], refl, (r .0 .2 .1, c .0 .2 .1, t .0 .2 .1), refl, spelled-append (str (now rules) ∷ []) (num n ∷ str (now item) ∷ []) bs at mid end (spelled-one string (str (now rules)) bs at mid r) (spelled-two number string (num n) (str (now item)) bs mid from end c t))
+
+-- RULES
+
+abbrev opening : List ℕ → List Token
+opening rules = num 2 ∷ str rules ∷ []
+
+opened : (bs rules rest : List ℕ) → bs ≡ spell (opening rules) ++ rest → Spelled-at (opening rules) bs 0 (length (spell (opening rules)))
+opened bs rules rest e =
+    let n = length (spell (opening rules)) in
+    (omega arith, (let z = ap length e in let y = length-append (spell (opening rules)) rest in omega arith), ap (λ k. take k bs) (let z : n - 0 ≡ n = omega arith in z) ∙ ap (take n) e ∙ take-at (spell (opening rules)) rest n refl)
+
+-- no opcode there
+pub none-without-opcode : (bs rules : List ℕ) (stop : Stop) → Stopped (Any (Token-of (opcode 2))) bs 0 stop → Rules-there bs rules → ⊥
+none-without-opcode bs rules stop h (b, (rest, e)) = none-stands (opcode 2) (num 2) (str rules ∷ []) bs 0 (length (spell (opening rules))) stop (omega arith, omega arith) (opened bs rules rest e) h
+
+-- another one
+pub none-by-another : (bs rules : List ℕ) (n mid : ℕ) → Token-at (opcode 2) (num n) bs 0 mid → (n ≡ 2 → ⊥) → Rules-there bs rules → ⊥
+none-by-another bs rules n mid t differ (b, (rest, e)) =
+    let (f, p) = same-token (opcode 2) (num n) (num 2) (str rules ∷ []) bs 0 mid (length (spell (opening rules))) (t .0) (omega arith, omega arith) (opened bs rules rest e) in
+    differ (cc)
+
+-- no string after it
+pub none-without-string : (bs rules : List ℕ) (mid : ℕ) (stop : Stop) → Token-at (opcode 2) (num 2) bs 0 mid → Stopped (Any (Token-of string)) bs mid stop → Rules-there bs rules → ⊥
+none-without-string bs rules mid stop t h (b, (rest, e)) =
+    let (f, p) = same-token (opcode 2) (num 2) (num 2) (str rules ∷ []) bs 0 mid (length (spell (opening rules))) (t .0) (omega arith, omega arith) (opened bs rules rest e) in
+    none-stands string (str rules) [] bs mid (length (spell (opening rules))) stop b p h
+
+-- a string after it
+pub rules-there : (bs rules : List ℕ) (mid end : ℕ) → Token-at (opcode 2) (num 2) bs 0 mid → Token-at string (str rules) bs mid end → Rules-there bs rules × ((other : List ℕ) → Rules-there bs other → other ≡ rules)
+rules-there bs rules mid end t r =
+    let p = spelled-two (opcode 2) string (num 2) (str rules) bs 0 mid end t r in
+    let k : end - 0 ≡ end = omega arith in (
+      (r .0 .2 .1, (drop end bs, sym (take-append-drop end bs) ∙ ap (λ u. u ++ drop end bs) (ap (λ j. take j bs) (sym k) ∙ p .2))),
+      λ other (b, (rest, e)).
+          let (f, q) = same-token (opcode 2) (num 2) (num 2) (str other ∷ []) bs 0 mid (length (spell (opening other))) (t .0) (omega arith, omega arith) (opened bs other rest e) in
+          let (g, o) = same-token string (str rules) (str other) [] bs mid end (length (spell (opening other))) (r .0) b q in
+          cc,
+    )
+
 -- from their first byte
 from-start : (bs : List ℕ) (stop : Stop) → Pending-stops requests (a-request ∷ []) bs 0 stop → Request-at bs (Err stop)
 from-start bs stop (h, s) = stops-request bs (stop .place) (stop .least) (let p : stop .place - 0 ≡ stop .place = omega arith in let n : stop .least - 0 ≡ stop .least = omega arith in subst (λ x. Stops (Any (Completes requests (a-request ∷ []))) bs x (stop .least)) p (subst (λ x. Stops (Any (Completes requests (a-request ∷ []))) bs (stop .place - 0) x) n s))
@@ -69,9 +112,9 @@ from-start bs stop (h, s) = stops-request bs (stop .place) (stop .least) (let p 
 pub no-request : (bs : List ℕ) (stop : Stop) → Stopped (Any (Token-of (shape a-request))) bs 0 stop → Request-at bs (Err stop)
 no-request bs stop h = from-start bs stop (stop-first requests completable a-request [] bs 0 stop h)
 
-pub whole : (n : ℕ) (bs : List ℕ) (mid : ℕ) (r : Result Taken Stop) → Token-at (opcode 1) (num n) bs 0 mid → Rest-at n (next requests a-request (num n) ++ []) bs mid r → Request-at bs r
+pub whole : (n : ℕ) (bs : List ℕ) (mid : ℕ) (r : Result Taken Stop) → Token-at (opcode 2) (num n) bs 0 mid → Rest-at n (next requests a-request (num n) ++ []) bs mid r → Request-at bs r
 whole n bs mid (Ok x) t (a, ts, m, w, e, p) =
-    let q = spelled-append (num n ∷ []) ts bs 0 mid (x .took) (spelled-one (opcode 1) (num n) bs 0 mid t) p in
+    let q = spelled-append (num n ∷ []) ts bs 0 mid (x .took) (spelled-one (opcode 2) (num n) bs 0 mid t) p in
     (a, m, (ap (λ k. take k bs) (let z : x .took ≡ x .took - 0 = omega arith in z) ∙ q .2 ∙ ap spell (sym e), w), q .1)
 whole n bs mid (Err stop) t s = from-start bs stop (stop-later requests a-request [] (num n) bs 0 mid stop (t .0) s)
 
@@ -88,3 +131,4 @@ pub request-some : (a : Asked) → 0 < length (write a)
 unfolding spell
 request-some (check item) = omega arith
 request-some (find path item) = omega arith
+request-some (fit rules which item) = omega arith

@@ -13,7 +13,7 @@ use Rattle.cbor.proofs.Words.{free-two, stops-same}
 use Rattle.sequence.specs.Token.{Token, num, str, spell, Word, Byte-string, Suits}
 use Rattle.sequence.specs.Grammar.{next, Takes, Completes, Completable}
 use Rattle.sequence.proofs.Grammars.{takes-append, completes-free, spell-bytes}
-use Rattle.request.specs.Asked.{Step, index, key, content, Asked, check, find, step-tokens, path-tokens, tokens, write, Writable-step, Writable-path, Writable, Is-request}
+use Rattle.request.specs.Asked.{Step, index, key, content, Asked, check, find, fit, step-tokens, path-tokens, tokens, write, Writable-step, Writable-path, Writable, Is-request}
 use Rattle.request.specs.Grammar.{Sort, a-request, a-path, a-step, a-number, a-string, many, requests}
 
 -- every sort can be completed
@@ -41,6 +41,7 @@ path-takes (p ∷ ps) ss (v, w) = takes-append requests (a-step ∷ (many (lengt
 pub request-takes : (a : Asked) → Writable a → Takes requests (a-request ∷ []) (tokens a) []
 unfolding Takes
 request-takes (check item) w = ((omega arith, omega arith), (w, refl))
+request-takes (fit rules which item) (a, b, c) = ((omega arith, omega arith), (a, (b, (c, refl))))
 request-takes (find path item) (w, l, b) = ((omega arith, omega arith), (l, takes-append requests (many (length path) a-step ++ a-string ∷ []) (a-string ∷ []) [] (path-tokens path) (str item ∷ []) (path-takes path (a-string ∷ []) w) (b, refl)))
 
 pub written-is-bytes : (a : Asked) → Writable a → all-bytes (write a) ≡ true
@@ -87,17 +88,23 @@ find-in n ts h f =
     let (bs, b, p) = last-string us g in
     (find ps bs, (w, omega arith, b), (let z : num 1 ∷ num n ∷ ts ≡ num 1 ∷ num (length ps) ∷ (path-tokens ps ++ str bs ∷ []) = cc in z))
 
-opcode-one : (z : ℕ) → suc z ≤ 1 → z ≡ 0
-opcode-one z h = omega arith
+fit-in : (ts : List Token) → Takes requests (a-string ∷ a-number ∷ a-string ∷ []) ts [] → Asked-in (num 2 ∷ ts)
+unfolding Takes
+fit-in [] f = absurd (let z : _≡_ {A = ℕ} 0 1 = cc in omega arith)
+fit-in (num n ∷ ts) (a, f) = absurd a
+fit-in (str r ∷ []) (a, f) = absurd (let z : _≡_ {A = ℕ} 0 1 = cc in omega arith)
+fit-in (str r ∷ (str n ∷ ts)) (a, (b, f)) = absurd b
+fit-in (str r ∷ (num n ∷ ts)) (a, (b, f)) = let (bs, c, p) = last-string ts f in (fit r n bs, (a, b, c), ap (λ x. num 2 ∷ str r ∷ num n ∷ x) p)
 
 asked-in : (ts : List Token) → Takes requests (a-request ∷ []) ts [] → Asked-in ts
 unfolding Takes
 asked-in [] f = absurd (let z : _≡_ {A = ℕ} 0 1 = cc in omega arith)
 asked-in (str bs ∷ ts) (a, f) = absurd a
 asked-in (num zero ∷ ts) (a, f) = let (bs, b, p) = last-string ts f in (check bs, b, ap (λ x. num 0 ∷ x) p)
-asked-in (num (suc z) ∷ []) (a, f) = absurd (let z : _≡_ {A = ℕ} 0 1 = cc in omega arith)
-asked-in (num (suc z) ∷ (str bs ∷ ts)) (a, (b, f)) = absurd b
-asked-in (num (suc z) ∷ (num n ∷ ts)) (a, (b, f)) = subst (λ x. Asked-in (num (suc x) ∷ num n ∷ ts)) (sym (opcode-one z (a .0))) (find-in n ts b f)
+asked-in (num (suc zero) ∷ []) (a, f) = absurd (let z : _≡_ {A = ℕ} 0 1 = cc in omega arith)
+asked-in (num (suc zero) ∷ (str bs ∷ ts)) (a, (b, f)) = absurd b
+asked-in (num (suc zero) ∷ (num n ∷ ts)) (a, (b, f)) = find-in n ts b f
+asked-in (num (suc (suc z)) ∷ ts) (a, f) = subst (λ x. Asked-in (num (suc (suc x)) ∷ ts)) (sym (opcode-two z (a .0))) (fit-in ts f)
 
 -- the same words
 is-completes : (w : List ℕ) → Any Is-request w → Any (Completes requests (a-request ∷ [])) w
@@ -133,6 +140,11 @@ steps-same (content ∷ ps) (key m ∷ qs) x y e = (cc, cc)
 tokens-same : (a b : Asked) → tokens a ≡ tokens b → a ≡ b
 tokens-same (check x) (check y) e = cc
 tokens-same (find p x) (find q y) e = let r = steps-same p q x y cc in let a = r .0 in let b = r .1 in cc
+tokens-same (fit r n x) (fit q m y) e = cc
+tokens-same (check x) (fit q m y) e = cc
+tokens-same (find p x) (fit q m y) e = cc
+tokens-same (fit r n x) (check y) e = cc
+tokens-same (fit r n x) (find q y) e = cc
 tokens-same (check x) (find q y) e = cc
 tokens-same (find p x) (check y) e = cc
 

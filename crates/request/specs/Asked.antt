@@ -14,6 +14,7 @@ pub data Step : Type 0 where
 pub data Asked : Type 0 where
   check : List ℕ → Asked
   find : List Step → List ℕ → Asked
+  fit : List ℕ → ℕ → List ℕ → Asked  -- rules as their bytes, which of them, the item
 
 abbrev pub step-tokens : Step → List Token
 step-tokens (index n) = num 0 ∷ num n ∷ []
@@ -27,6 +28,7 @@ path-tokens (p ∷ ps) = step-tokens p ++ path-tokens ps
 abbrev pub tokens : Asked → List Token
 tokens (check item) = num 0 ∷ str item ∷ []
 tokens (find path item) = num 1 ∷ num (length path) ∷ (path-tokens path ++ str item ∷ [])
+tokens (fit rules which item) = num 2 ∷ str rules ∷ num which ∷ str item ∷ []
 
 abbrev pub write : Asked → List ℕ
 write a = spell (tokens a)
@@ -44,6 +46,7 @@ Writable-path (p ∷ ps) = Writable-step p × Writable-path ps
 abbrev pub Writable : Asked → Type 0
 Writable (check item) = Byte-string item
 Writable (find path item) = Writable-path path × Word (length path) × Byte-string item
+Writable (fit rules which item) = Byte-string rules × Word which × Byte-string item
 
 -- bytes that are a request
 abbrev pub Is-request : Asked → List ℕ → Type 0

@@ -12,7 +12,7 @@ pub data Sort : Type 0 where
   a-string : Sort
 
 abbrev pub shape : Sort → Shape
-shape a-request = opcode 1
+shape a-request = opcode 2
 shape a-path = number
 shape a-step = opcode 2
 shape a-number = number
@@ -24,7 +24,8 @@ many (suc n) s = s ∷ many n s
 
 abbrev pub after-request : ℕ → List Sort
 after-request zero = a-string ∷ []
-after-request (suc n) = a-path ∷ a-string ∷ []
+after-request (suc zero) = a-path ∷ a-string ∷ []
+after-request (suc (suc n)) = a-string ∷ a-number ∷ a-string ∷ []
 
 abbrev pub after-step : ℕ → List Sort
 after-step zero = a-number ∷ []

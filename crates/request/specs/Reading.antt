@@ -3,23 +3,25 @@ use mathlib.Core.Path.{_≡_}
 use mathlib.Core.List.{List, [], _∷_, _++_}
 use Prim.Native.Nat.{ℕ, _<_, _≤_}
 use lib.ListN.{length, take}
-use denote.Ref.{now}
+use denote.Ref.{RefT, now}
+use Rattle.std.specs.declared.option.Option.{Option}
+use Rattle.std.specs.declared.option.Option.the-variants.{Some, None}
 use Rattle.std.specs.declared.result.Result.{Result}
 use Rattle.std.specs.declared.result.Result.the-variants.{Ok, Err}
 use Rattle.cbor.specs.declared.reading.Stop.{Stop}
 use Rattle.cbor.specs.Prefix.{Any, Stops}
-use Rattle.sequence.specs.Token.{Token, num, spell}
+use Rattle.sequence.specs.Token.{Token, num, str, spell, Byte-string}
 use Rattle.sequence.specs.Reading.{Spelled-at, Pending-stops}
 use Rattle.request.specs.declared.reading.Step.{Step as Lent-step}
 use Rattle.request.specs.declared.reading.Step.the-variants.{Index, Key, Content}
 use Rattle.request.specs.declared.reading.Path.{Path}
 use Rattle.request.specs.declared.reading.Request.{Request}
-use Rattle.request.specs.declared.reading.Request.the-variants.{Check, Find}
+use Rattle.request.specs.declared.reading.Request.the-variants.{Check, Find, Fit}
 use Rattle.request.specs.declared.reading.NextStep.{NextStep}
 use Rattle.request.specs.declared.reading.Taken.{Taken}
 use Rattle.request.specs.declared.reading.Extent.{Extent}
 use Rattle.request.specs.declared.reading.Extent.the-variants.{Complete, Incomplete, Wrong}
-use Rattle.request.specs.Asked.{Step, index, key, content, Asked, check, find, step-tokens, path-tokens, tokens, write, Writable-step, Writable-path, Writable, Is-request}
+use Rattle.request.specs.Asked.{Step, index, key, content, Asked, check, find, fit, step-tokens, path-tokens, tokens, write, Writable-step, Writable-path, Writable, Is-request}
 use Rattle.request.specs.Grammar.{Sort, a-step, many, requests}
 
 -- a step, a path and a request, as parts of the lent bytes, stand for what is asked
@@ -34,6 +36,7 @@ Path-of p ps = (length ps ≡ p .count) × (now (p .steps) ≡ spell (path-token
 abbrev pub Means : Request → Asked → Type 0
 Means (Check item) a = a ≡ check (now item)
 Means (Find path item) a = (ps : List Step) × Path-of path ps × (a ≡ find ps (now item))
+Means (Fit rules which item) a = a ≡ fit (now rules) which (now item)
 
 abbrev pub Step-at : List ℕ → ℕ → Result NextStep Stop → Type 0
 Step-at bs at (Ok x) = Writable-step (step-of (x .step)) × Spelled-at (step-tokens (step-of (x .step))) bs at (x .next)
@@ -66,3 +69,11 @@ abbrev pub Reaches : List ℕ → Extent → Type 0
 Reaches bs (Complete n) = (0 < n) × (n ≤ length bs) × Any Is-request (take n bs)
 Reaches bs (Incomplete least) = Stops (Any Is-request) bs (length bs) least
 Reaches bs (Wrong place) = (place < length bs) × Stops (Any Is-request) bs place 0
+
+-- the rules that stand where those of a request to fit do, with what comes after them
+abbrev pub Rules-there : List ℕ → List ℕ → Type 0
+Rules-there bs rules = Byte-string rules × ((rest : List ℕ) × (bs ≡ spell (num 2 ∷ str rules ∷ []) ++ rest))
+
+abbrev pub Rules-in : List ℕ → Option (RefT (List ℕ)) → Type 0
+Rules-in bs (Some rules) = Rules-there bs (now rules) × ((other : List ℕ) → Rules-there bs other → other ≡ now rules)
+Rules-in bs None = (rules : List ℕ) → Rules-there bs rules → ⊥

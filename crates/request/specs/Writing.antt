@@ -5,7 +5,7 @@ use denote.Ref.{now}
 use Rattle.sequence.specs.Token.{num, str, token-bytes, spell}
 use Rattle.request.specs.declared.reading.Path.{Path}
 use Rattle.request.specs.declared.reading.Request.{Request}
-use Rattle.request.specs.declared.reading.Request.the-variants.{Check, Find}
+use Rattle.request.specs.declared.reading.Request.the-variants.{Check, Find, Fit}
 
 abbrev pub find-bytes : Path → List ℕ → List ℕ
 find-bytes path item = token-bytes (num 1) ++ (token-bytes (num (path .count)) ++ (now (path .steps) ++ token-bytes (str item)))
@@ -13,3 +13,4 @@ find-bytes path item = token-bytes (num 1) ++ (token-bytes (num (path .count)) +
 abbrev pub request-bytes : Request → List ℕ
 request-bytes (Check item) = spell (num 0 ∷ str (now item) ∷ [])
 request-bytes (Find path item) = find-bytes path (now item)
+request-bytes (Fit rules which item) = spell (num 2 ∷ str (now rules) ∷ num which ∷ str (now item) ∷ [])

@@ -3,7 +3,7 @@ ghost use mathlib.Core.Path.{_≡_};
 ghost use Prim.Native.Nat.{_-_, _≤_};
 ghost use lib.ListN.{length, take, drop};
 ghost use Rattle.request.specs.Grammar.{after-request};
-ghost use Rattle.request.specs.Reading.{Step-at, Path-at, Rest-at, Request-at, Reads-back, Reaches};
+ghost use Rattle.request.specs.Reading.{Step-at, Path-at, Rest-at, Request-at, Reads-back, Reaches, Rules-in};
 use cbor::reading::Stop;
 use sequence::reading::read_number;
 use sequence::reading::read_opcode;
@@ -28,6 +28,8 @@ pub struct Path<'a> {
 pub enum Request<'a> {
     Check(&'a [u8]),
     Find(Path<'a>, &'a [u8]),
+    // the bytes of rules, which of them, the item
+    Fit(&'a [u8], u64, &'a [u8]),
 }
 
 #[derive(Clone, Copy)]
@@ -125,16 +127,28 @@ fn read_find<'a>(bytes: &'a [u8], at: usize) -> Result<Taken<'a>, Stop>
     })
 }
 
-// The request that stands at the beginning of some bytes, or where they cease to begin one.
+fn read_fit<'a>(bytes: &'a [u8], at: usize) -> Result<Taken<'a>, Stop>
+    ensures { λ r. ⌜ Rest-at 2 (after-request 2) (now (bytes .entry)) at r ⌝ }
+{
+    let rules = read_string(bytes, at)?;
+    let which = read_number(bytes, rules.next)?;
+    let item = read_string(bytes, which.next)?;
+    Ok(Taken {
+        request: Request::Fit(rules.content, which.argument, item.content),
+        took: item.next,
+    })
+}
+
+// The request that stands at the beginning of some bytes, or where they cease to begin one. Rules are not looked into.
 pub fn read_request<'a>(bytes: &'a [u8]) -> Result<Taken<'a>, Stop>
     ensures right { λ r. ⌜ Request-at (now (bytes .entry)) r ⌝ }
     ensures back { λ r. ⌜ Reads-back (now (bytes .entry)) r ⌝ }
 {
-    let kind = read_opcode(bytes, 0, 1)?;
-    if kind.argument == 0 {
-        read_check(bytes, kind.next)
-    } else {
-        read_find(bytes, kind.next)
+    let kind = read_opcode(bytes, 0, 2)?;
+    match kind.argument {
+        0 => read_check(bytes, kind.next),
+        1 => read_find(bytes, kind.next),
+        _ => read_fit(bytes, kind.next),
     }
 }
 
@@ -146,4 +160,20 @@ pub fn extent_of(bytes: &[u8]) -> Extent
         Err(stop) if stop.place < bytes.len() => Extent::Wrong(stop.place),
         Err(stop) => Extent::Incomplete(stop.least),
     }
+}
+
+// The rules of a request to fit, as soon as all of them are there.
+pub fn rules_in<'a>(bytes: &'a [u8]) -> Option<&'a [u8]>
+    ensures { λ r. ⌜ Rules-in (now (bytes .entry)) r ⌝ }
+{
+    let Ok(kind) = read_opcode(bytes, 0, 2) else {
+        return None;
+    };
+    if kind.argument != 2 {
+        return None;
+    }
+    let Ok(rules) = read_string(bytes, kind.next) else {
+        return None;
+    };
+    Some(rules.content)
 }

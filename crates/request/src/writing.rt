@@ -59,5 +59,15 @@ pub fn write_request(out: &mut [u8], at: usize, request: Request<'_>) -> Option<
     match request {
         Request::Check(item) => write_tokens(out, at, &[Token::Number(0), Token::Bytes(item)]),
         Request::Find(path, item) => write_find(out, at, path, item),
+        Request::Fit(rules, which, item) => write_tokens(
+            out,
+            at,
+            &[
+                Token::Number(2),
+                Token::Bytes(rules),
+                Token::Number(which),
+                Token::Bytes(item),
+            ],
+        ),
     }
 }

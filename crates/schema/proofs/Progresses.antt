@@ -192,7 +192,7 @@ module _ (bs stack : List ℕ) (s : Progress) (h : Reached bs stack s) (z : s .d
   trailing l = (wrong-after l, not-too-many bs (h .tokens) [] (s .at) over (h .spelled) (let y = h .few in let x = h .counted in omega arith) nothing-more)
 
   -- nothing after them
-  pub whole : length bs ≤ s .at → (xs : List Schema) × Are-rules xs bs × (s .parts ≡ parts xs) × (s .parts ≤ 8192)
+  pub whole : length bs ≤ s .at → ((xs : List Schema) × Are-rules xs bs × (s .parts ≡ parts xs)) × (s .parts ≤ 8192) × (Too-many bs → ⊥)
   whole l =
       let (xs, w, e) = rules-in (h .tokens) over in
-      (xs, (sym (take-all (s .at) bs l) ∙ front ∙ ap spell e, w), h .counted ∙ ap (parts-in (the-rules ∷ [])) e ∙ rules-count xs, h .few)
+      ((xs, (sym (take-all (s .at) bs l) ∙ front ∙ ap spell e, w), h .counted ∙ ap (parts-in (the-rules ∷ [])) e ∙ rules-count xs), h .few, not-too-many bs (h .tokens) [] (s .at) over (h .spelled) (let y = h .few in let x = h .counted in omega arith) nothing-more)

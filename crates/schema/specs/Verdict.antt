@@ -1,5 +1,6 @@
 -- What reading rules tells.
 use mathlib.Core.Path.{_≡_}
+use mathlib.Core.Logic.{_⊎_}
 use mathlib.Core.List.{List, [], _∷_, _++_}
 use Prim.Native.Nat.{ℕ, suc, _+_, _*_, _<_, _≤_}
 use lib.ListN.{length, take}
@@ -49,7 +50,7 @@ Advances bs s stack (Err e) = Refused bs e
 
 -- all of them
 abbrev pub Rules-at : List ℕ → Result ℕ NoRules → Type 0
-Rules-at bs (Ok n) = (ss : List Schema) × Are-rules ss bs × (n ≡ parts ss) × (n ≤ 8192)
+Rules-at bs (Ok n) = ((ss : List Schema) × Are-rules ss bs × (n ≡ parts ss)) × (n ≤ 8192) × (Too-many bs → ⊥)
 Rules-at bs (Err e) = Refused bs e
 
 -- with so much lent
@@ -58,3 +59,11 @@ Rules-told lent bs (Ok n) = (16388 ≤ lent) × Rules-at bs (Ok n)
 Rules-told lent bs (Err TooLittleLent) = lent < 16388
 Rules-told lent bs (Err TooLarge) = (16388 ≤ lent) × Too-many bs
 Rules-told lent bs (Err (Wrong place)) = (16388 ≤ lent) × (Wrong-at bs place × (Too-many bs → ⊥))
+
+-- rules that can be told anything of: they are some, or more than are looked at
+abbrev pub Readable : List ℕ → Type 0
+Readable bs = Any Are-rules bs ⊎ Too-many bs
+
+-- or neither, with the place
+abbrev pub Malformed : List ℕ → ℕ → Type 0
+Malformed bs place = Wrong-at bs place × (Too-many bs → ⊥)
