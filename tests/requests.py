@@ -7,6 +7,8 @@ with a byte changed. The answers come from a reader of its own, byte by byte, th
 import random
 import sys
 
+import rules
+
 
 def head(major, n):
     if n < 24:
@@ -39,15 +41,21 @@ def length(rng):
 
 def request(rng):
     item = string(rng.randbytes(length(rng)))
-    if rng.randrange(2):
+    kind = rng.randrange(3)
+    if kind == 0:
         return head(0, 0) + item
+    if kind == 2:
+        written = bytearray(rules.rules(rng))
+        if rng.randrange(2):
+            written[rng.randrange(len(written))] = rng.randrange(256)
+        return head(0, 2) + string(written) + head(0, number(rng)) + item
     count = rng.choice((0, 1, 2, 3, 24, 32, 33))
     return head(0, 1) + head(0, count) + b"".join(step(rng) for _ in range(count)) + item
 
 
 def place(data):
     """The first byte with which no request begins, how many there are if they all begin one, or None if one stands there."""
-    wanted, at = [("opcode", 1, (["string"], ["count", "string"]))], 0
+    wanted, at = [("opcode", 2, (["string"], ["count", "string"], ["rules", "number", "string"]))], 0
     while wanted:
         kind, *rest = wanted.pop(0) if isinstance(wanted[0], tuple) else (wanted.pop(0),)
         if kind == "bytes":
@@ -68,7 +76,7 @@ def place(data):
             at += 1
             wanted[:0] = rest[1][first]
             continue
-        if first >> 5 != (2 if kind == "string" else 0) or first & 31 > 27:
+        if first >> 5 != (2 if kind in ("string", "rules") else 0) or first & 31 > 27:
             return at
         at += 1
         value = first & 31
@@ -83,7 +91,11 @@ def place(data):
                 if (value + 1) * 256**left <= least:
                     return at
                 at += 1
-        if kind == "string":
+        if kind == "rules" and at + value <= len(data):
+            told = rules.told(bytes(data[at : at + value])).split()
+            if told[0] == "wrong":
+                return at + int(told[2])
+        if kind in ("string", "rules"):
             wanted.insert(0, ("bytes", value))
         elif kind == "count":
             wanted.insert(0, ("steps", value))

@@ -209,4 +209,5 @@ def main():
         print("rules", data.hex(), "=>", told(bytes(data)))
 
 
-main()
+if __name__ == "__main__":
+    main()

@@ -1,3 +1,2 @@
 pub mod Commands
-pub mod Size
-pub mod Unread
+pub mod Tail

@@ -1,7 +1,7 @@
 // Why a run ended before its input.
 ghost use mathlib.Core.Path.{_≡_};
 ghost use Rattle.std.specs.Results.{isOk};
-use crate::window::BUFFER;
+use input::BUFFER;
 use std::alloc::AllocError;
 use std::fmt;
 use std::io;

@@ -1,7 +1,7 @@
 // What `--help` prints.
 use crate::fault::Fault;
 use crate::fault::written;
-use crate::window::BUFFER;
+use input::BUFFER;
 
 // It fits on a screen of 80 by 24.
 pub fn print_help(rt: &LibcRuntime) -> Result<(), Fault> {
@@ -12,11 +12,11 @@ usage: deckorange [FILE]
        deckorange --help
 
 Answers the requests in FILE, or those on standard input if there is no FILE:
-a line of three numbers for each request, in their order.
+a line of numbers for each request, in their order.
 
-  0 6 0   the request is a request
-  0 1 P   the bytes are no request: the one at P, counted from 0 at the
-          request's start, is the first that is wrong, or they end before P
+  0 6 0   a request, of a kind that is not offered yet
+  0 1 P   no request: the byte at P, counted from 0 at the request's start, is
+          the first with which the bytes begin none, or they end at P
 
 Nothing behind a line that begins 0 1 is answered.
 

@@ -3,7 +3,6 @@ mod command;
 mod fault;
 mod help;
 mod responder;
-mod window;
 
 use command::Command;
 use fault::Fault;

@@ -1,19 +1,22 @@
 // Where the requests are answered.
 ghost use mathlib.Core.Path.{_≡_};
 ghost use mathlib.Core.List.{[]};
-ghost use Prim.Native.Nat.{_+_, _≤_};
+ghost use Prim.Native.Nat.{_≤_};
 ghost use lib.ListN.{length, drop};
 ghost use Rattle.std.specs.Of.Vec.{vec-len};
 ghost use Rattle.std.specs.Vec.{made};
-ghost use Rattle.deckorange.specs.Unread.{unread, Tail};
+ghost use Rattle.input.specs.Unread.{unread};
+ghost use Rattle.deckorange.specs.Tail.{Tail};
 use crate::fault::Fault;
 use crate::fault::FaultFromAllocError;
 use crate::fault::written;
-use crate::window::BUFFER;
-use crate::window::Window;
 use answer::LENT;
 use answer::answer;
+use input::Filled;
+use input::Window;
+use request::answers::Answer;
 use request::answers::AnswerDisplay;
+use request::answers::Refusal;
 use request::reading::Extent;
 use request::reading::extent_of;
 use std::alloc::Global;
@@ -31,6 +34,8 @@ enum Pause {
     Wants(usize),
     // It is no request, and nothing says where the next one starts.
     Wrong,
+    // The last one that was answered was no request.
+    Refused,
 }
 
 // All the memory that answering takes.
@@ -40,7 +45,7 @@ pub struct Responder {
     lent: Vec<u64>,
     out: BufWriter<Stdout>,
     // As many as `LENT`.
-    ghost enough: { vec-len lent ≡ 264 },
+    ghost enough: { vec-len lent ≡ 16388 },
 }
 
 impl Responder {
@@ -60,17 +65,17 @@ impl Responder {
     pub fn answer_all<R: Read>(&mut self, name: String, reader: &mut R) -> Result<(), Fault> {
         // Nothing says that an input ends.
         for _ in 0..u64::MAX {
-            let Pause::Wants(least) = self.answer_held()? else {
-                return self.answer_rest();
+            let least = match self.answer_held()? {
+                Pause::Wants(least) => least,
+                Pause::Wrong => return self.answer_rest(),
+                Pause::Refused => return self.flush(),
             };
             // No line waits while more is read, and none is lost where that fails.
             self.flush()?;
-            if least > BUFFER || self.window.len() >= BUFFER {
-                return Err(Fault::TooLarge);
-            }
             match self.window.fill(reader, least) {
-                Ok(true) => {}
-                Ok(false) => return self.answer_rest(),
+                Ok(Filled::Enough) => {}
+                Ok(Filled::Ended) => return self.answer_rest(),
+                Ok(Filled::NoRoom) => return Err(Fault::TooLarge),
                 Err(reason) => return Err(Fault::Input { name, reason }),
             }
         }
@@ -84,25 +89,30 @@ impl Responder {
     {
         loop {
             match extent_of(self.window.held()) {
-                Extent::Complete(n) => self.answer_next(n)?,
+                Extent::Complete(n) => {
+                    let is_request = self.answer_next(n)?;
+                    if !is_request {
+                        return Ok(Pause::Refused);
+                    }
+                }
                 Extent::Incomplete(least) => return Ok(Pause::Wants(least)),
                 Extent::Wrong(_) => return Ok(Pause::Wrong),
             }
         }
     }
 
-    // Answers the request in the first `n` bytes that are held, and lets go of them.
-    fn answer_next(&mut self, n: usize) -> Result<(), Fault>
-        requires { ⌜ now self .window .start + n ≤ now self .window .end ⌝ }
+    // Answers the request in the first `n` bytes that are held, and lets go of them. Whether it was one is in its rules, too.
+    fn answer_next(&mut self, n: usize) -> Result<bool, Fault>
+        requires { ⌜ n ≤ length (unread (now self .window)) ⌝ }
         ensures { λ r. ⌜ made r (λ _. unread (now (self .exit) .window) ≡ drop n (unread (now (self .entry) .window))) ⌝ }
     {
-        write_answer(
+        let is_request = write_answer(
             &self.window.held()[0..n],
             self.lent.as_mut_slice(),
             &mut self.out,
         )?;
         self.window.skip(n);
-        Ok(())
+        Ok(is_request)
     }
 
     // Answers all that is held as one request, which it is not: it is cut off or wrong.
@@ -120,11 +130,13 @@ impl Responder {
     }
 }
 
-fn write_answer(bytes: &[u8], lent: &mut [u64], out: &mut BufWriter<Stdout>) -> Result<(), Fault>
-    requires { ⌜ length (now lent) ≡ 264 ⌝ }
+// Writes the line, and says whether the bytes begin with a request.
+fn write_answer(bytes: &[u8], lent: &mut [u64], out: &mut BufWriter<Stdout>) -> Result<bool, Fault>
+    requires { ⌜ length (now lent) ≡ 16388 ⌝ }
 {
     let Ok(line) = answer(bytes, lent) else {
         unreachable()
     };
-    written(writeln!(out, "{line}"))
+    written(writeln!(out, "{line}"))?;
+    Ok(!matches!(line, Answer::Refused(Refusal::NotARequest, _)))
 }

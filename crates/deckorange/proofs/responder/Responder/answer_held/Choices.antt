@@ -1,5 +1,6 @@
 use lib.ListN.{length}
-use Rattle.deckorange.specs.Unread.{unread, Tail}
+use Rattle.input.specs.Unread.{unread}
+use Rattle.deckorange.specs.Tail.{Tail}
 use Rattle.deckorange.proofs.responder.Responder.answer_held.Given as given
 
 abbrev pub Inv-loop-n : given.InvT-loop-n
