@@ -4,8 +4,10 @@ use mathlib.Core.Logic.{inl, inr}
 use mathlib.Core.List.{List, [], _∷_, _++_, append-assoc}
 use Prim.Native.Nat.{ℕ, zero, suc, _+_, _*_, _-_, _<_, _≤_}
 use native.Mathlib.Omega.{arith}
-use lib.ListN.{length, getD, take}
+use lib.ListN.{length, getD, take, drop, take-append-drop}
+use Rattle.std.specs.declared.result.Result.{Result}
 use Rattle.std.specs.declared.result.Result.the-variants.{Ok, Err}
+use Rattle.std.proofs.shelf.Tests.{cases-lt}
 use Rattle.std.proofs.shelf.Lists.{append-nil, take-all, take-more}
 use Rattle.cbor.specs.declared.reading.Stop.{Stop}
 use Rattle.cbor.specs.Prefix.{Any as Any-of, Stops}
@@ -23,13 +25,15 @@ use Rattle.schema.specs.declared.nodes.Node.the-variants.{OfSchema, OfGroup, O
 use Rattle.schema.specs.declared.nodes.Run.{Run}
 use Rattle.schema.specs.declared.nodes.Sort.{Sort as Node-sort}
 use Rattle.schema.specs.declared.reading.Progress.{Progress}
-use Rattle.schema.specs.Rules.{Schema, Are-rules, parts}
+use Rattle.schema.specs.Rules.{Schema, tokens, write, Writable, Are-rules, parts}
 use Rattle.schema.specs.Grammar.{Sort, the-rules, a-rule, many, grammar, parts-in}
 use Rattle.schema.specs.Nodes.{own-tokens, sort-of, in-node, inside, run-of, string-in, rule-part}
 use Rattle.schema.specs.Reading.{Opens, Whole, Stuck, Node-at}
 use Rattle.schema.specs.Stacks.{number-sort, pending}
-use Rattle.schema.specs.Verdict.{Too-many, Wrong-at, Reached}
-use Rattle.schema.proofs.Trees.{rules-in, are-completes, completes-are}
+use Rattle.schema.specs.declared.reading.NoRules.{NoRules}
+use Rattle.schema.specs.declared.reading.NoRules.the-variants.{TooLittleLent, TooLarge, Wrong}
+use Rattle.schema.specs.Verdict.{Too-many, Wrong-at, Reached, Rules-at, Rules-told, Reads-back}
+use Rattle.schema.proofs.Trees.{rules-take, rules-in, are-completes, completes-are}
 use Rattle.schema.proofs.Places.{ceases-first}
 use Rattle.schema.proofs.Parts.{parts-append, rules-count, node-weighs}
 
@@ -196,3 +200,37 @@ module _ (bs stack : List ℕ) (s : Progress) (h : Reached bs stack s) (z : s .d
   whole l =
       let (xs, w, e) = rules-in (h .tokens) over in
       ((xs, (sym (take-all (s .at) bs l) ∙ front ∙ ap spell e, w), h .counted ∙ ap (parts-in (the-rules ∷ [])) e ∙ rules-count xs), h .few, not-too-many bs (h .tokens) [] (s .at) over (h .spelled) (let y = h .few in let x = h .counted in omega arith) nothing-more)
+
+-- READ BACK
+
+nothing-left : (bs : List ℕ) (at : ℕ) → Stuck [] bs at
+unfolding Takes
+nothing-left bs at [] rest end f p w = refl
+nothing-left bs at (t ∷ vs) rest end f p w = absurd f
+
+module _ (bs : List ℕ) (xs : List Schema) (w : Writable xs) (e : bs ≡ write xs) where
+  same-parts : (ys : List Schema) → Are-rules ys bs → parts ys ≡ parts xs
+  same-parts ys (f, v) =
+      let z = completes-free grammar (the-rules ∷ []) (tokens ys) (tokens xs) (write ys) [] (refl, rules-take ys v) (append-nil (write ys) ∙ sym f ∙ e, rules-take xs w) in
+      sym (rules-count ys) ∙ ap (parts-in (the-rules ∷ [])) (z .0) ∙ rules-count xs
+
+  few-parts : parts xs ≤ 8192 → Too-many bs → ⊥
+  few-parts l = not-too-many bs (tokens xs) [] (length bs) (rules-take xs w) (omega arith, omega arith, ap (λ k. take k bs) (let z : length bs - 0 ≡ length bs = omega arith in z) ∙ take-all (length bs) bs (omega arith) ∙ e) (omega (arith, rules-count xs)) (nothing-left bs (length bs))
+
+  not-wrong : (p : ℕ) → Wrong-at bs p → ⊥
+  not-wrong p h = elim (cases-lt p (length bs)) [
+    | inl l ↦ h .ends l (drop (suc p) bs, subst (λ y. Any-of Are-rules y) (sym (take-append-drop (suc p) bs)) (xs, (e, w)))
+    | inr l ↦ h .short (let z = h .within in omega arith) (xs, (e, w))
+  ]
+
+pub told-from : (lent : ℕ) (bs : List ℕ) (r : Result ℕ NoRules) → 16388 ≤ lent → Rules-at bs r → Rules-told lent bs r
+told-from lent bs (Ok n) l h = (l, h)
+told-from lent bs (Err TooLittleLent) l h = absurd h
+told-from lent bs (Err TooLarge) l h = (l, h)
+told-from lent bs (Err (Wrong p)) l h = (l, h)
+
+pub reads-back : (lent : ℕ) (bs : List ℕ) (r : Result ℕ NoRules) → Rules-told lent bs r → Reads-back lent bs r
+reads-back lent bs (Ok n) (a, ((ys, f, m), b, c)) xs w e l k = ap Ok (m ∙ same-parts bs xs w e ys f)
+reads-back lent bs (Err TooLittleLent) h xs w e l k = absurd (omega arith)
+reads-back lent bs (Err TooLarge) (a, h) xs w e l k = absurd (few-parts bs xs w e l h)
+reads-back lent bs (Err (Wrong p)) (a, (h, b)) xs w e l k = absurd (not-wrong bs xs w e p h)

@@ -67,3 +67,7 @@ Readable bs = Any Are-rules bs ⊎ Too-many bs
 -- or neither, with the place
 abbrev pub Malformed : List ℕ → ℕ → Type 0
 Malformed bs place = Wrong-at bs place × (Too-many bs → ⊥)
+
+-- rules that were written are read, with their parts
+abbrev pub Reads-back : ℕ → List ℕ → Result ℕ NoRules → Type 0
+Reads-back lent bs r = (ss : List Schema) → Writable ss → bs ≡ write ss → parts ss ≤ 8192 → 16388 ≤ lent → r ≡ Ok (parts ss)

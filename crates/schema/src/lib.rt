@@ -1,3 +1,4 @@
 // Rules, after CDDL (RFC 8610): their bytes.
 pub mod nodes;
 pub mod reading;
+pub mod writing;

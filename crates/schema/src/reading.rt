@@ -7,7 +7,7 @@ ghost use Rattle.schema.specs.Grammar.{many};
 ghost use Rattle.schema.specs.Nodes.{sort-of, in-schema, in-node, run-of, string-in, rule-part};
 ghost use Rattle.schema.specs.Reading.{Node-at};
 ghost use Rattle.schema.specs.Stacks.{number-sort, pending};
-ghost use Rattle.schema.specs.Verdict.{Reached, Advances, Rules-at, Rules-told};
+ghost use Rattle.schema.specs.Verdict.{Reached, Advances, Rules-at, Rules-told, Reads-back};
 use crate::nodes::Field;
 use crate::nodes::Group;
 use crate::nodes::NextNode;
@@ -206,7 +206,8 @@ fn read_all(bytes: &[u8], stack: &mut [u64]) -> Result<usize, NoRules>
 
 // How many parts the rules have that some bytes are, or why they are none to look at.
 pub fn read_rules(bytes: &[u8], lent: &mut [u64]) -> Result<usize, NoRules>
-    ensures { λ r. ⌜ Rules-told (length (now (lent .entry))) (now (bytes .entry)) r ⌝ }
+    ensures told { λ r. ⌜ Rules-told (length (now (lent .entry))) (now (bytes .entry)) r ⌝ }
+    ensures back { λ r. ⌜ Reads-back (length (now (lent .entry))) (now (bytes .entry)) r ⌝ }
 {
     if lent.len() < STACK {
         return Err(NoRules::TooLittleLent);

@@ -17,12 +17,12 @@ pub add-result-in-Wrong : need.add-result-in-Wrong
 add-result-in-Wrong c =
     let h = c .head-size .ensures 2 in
     let l = rules-within (c .args .bytes .now) (c .in-Some .rules .now) (c .in-Some .ensures tt .0) in
-    let t : Rules-told (length (c .args .lent .now)) (c .in-Some .rules .now) (Err (Wrong (c .in-Wrong .place))) = subst (λ e. Rules-told (length (c .args .lent .now)) (c .in-Some .rules .now) (Err e)) (c .in-Wrong .is) (c .in-Err .ensures tt) in
+    let t : Rules-told (length (c .args .lent .now)) (c .in-Some .rules .now) (Err (Wrong (c .in-Wrong .place))) = subst (λ e. Rules-told (length (c .args .lent .now)) (c .in-Some .rules .now) (Err e)) (c .in-Wrong .is) (c .in-Err .ensures tt .told) in
     let p = t .1 .0 .within in
     omega arith
 
 pub returns-in-Wrong : need.returns-in-Wrong
 returns-in-Wrong c =
     let h = c .head-size .ensures 2 in
-    let t : Rules-told (length (c .args .lent .now)) (c .in-Some .rules .now) (Err (Wrong (c .in-Wrong .place))) = subst (λ e. Rules-told (length (c .args .lent .now)) (c .in-Some .rules .now) (Err e)) (c .in-Wrong .is) (c .in-Err .ensures tt) in
+    let t : Rules-told (length (c .args .lent .now)) (c .in-Some .rules .now) (Err (Wrong (c .in-Wrong .place))) = subst (λ e. Rules-told (length (c .args .lent .now)) (c .in-Some .rules .now) (Err e)) (c .in-Wrong .is) (c .in-Err .ensures tt .told) in
     (c .in-Some .rules .now, c .in-Some .ensures tt .0, (c .in-Wrong .place, t .1, omega arith))
