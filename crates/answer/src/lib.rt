@@ -8,15 +8,16 @@ use request::answers::Refusal;
 use request::reading::read_request;
 use request::reading::rules_in;
 use schema::reading::NoRules;
-use schema::reading::read_rules;
 
 pub mod refusals;
+mod rules;
 
 use refusals::Offered;
 use refusals::first_refusal;
+use rules::read_into;
 
-// How many numbers have to be lent: what reading rules takes.
-pub const LENT: usize = 16388;
+// How many numbers have to be lent: what reading rules takes for its stack and for their table.
+pub const LENT: usize = 49156;
 
 const OFFERED: Offered = Offered {
     check: false,
@@ -29,13 +30,13 @@ pub struct TooLittleLent;
 
 // The place at which the rules of a request are wrong, if they are all there and it is.
 fn wrong_rules(bytes: &[u8], lent: &mut [u64]) -> Option<usize>
-    requires { ⌜ 16388 ≤ length (now lent) ⌝ }
+    requires { ⌜ 49156 ≤ length (now lent) ⌝ }
     ensures { λ r. ⌜ Rules-told-of (now (bytes .entry)) r ⌝ }
 {
     let Some(rules) = rules_in(bytes) else {
         return None;
     };
-    let Err(reason) = read_rules(rules, lent) else {
+    let Err(reason) = read_into(rules, lent) else {
         return None;
     };
     match reason {

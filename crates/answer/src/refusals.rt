@@ -8,10 +8,10 @@ ghost use Rattle.request.specs.Reading.{Means};
 ghost use Rattle.answer.specs.Refusals.{offers, Too-large, First-refusal};
 ghost use Rattle.schema.specs.Verdict.{Too-many};
 ghost use Rattle.answer.specs.Checks.{Passes, Decides};
+use crate::rules::read_into;
 use request::answers::Refusal;
 use request::reading::Request;
 use schema::reading::NoRules;
-use schema::reading::read_rules;
 
 // Which kinds of request are answered.
 #[derive(Clone, Copy)]
@@ -38,17 +38,17 @@ fn if_offered<'a>(request: Request<'a>, offered: Offered) -> Option<Request<'a>>
 }
 
 fn too_many_parts(rules: &[u8], lent: &mut [u64]) -> bool
-    requires { ⌜ 16388 ≤ length (now lent) ⌝ }
+    requires { ⌜ 49156 ≤ length (now lent) ⌝ }
     ensures { λ r. ⌜ Decides r (Too-many (now (rules .entry))) ⌝ }
 {
-    match read_rules(rules, lent) {
+    match read_into(rules, lent) {
         Err(NoRules::TooLarge) => true,
         _ => false,
     }
 }
 
 fn if_within_limits<'a>(request: Request<'a>, lent: &mut [u64]) -> Option<Request<'a>>
-    requires { ⌜ 16388 ≤ length (now lent) ⌝ }
+    requires { ⌜ 49156 ≤ length (now lent) ⌝ }
     ensures { λ r. ⌜ Passes Too-large (request .entry) r ⌝ }
 {
     let too_large = match request {
@@ -65,7 +65,7 @@ pub(crate) fn first_refusal(
     offered: Offered,
     lent: &mut [u64],
 ) -> Option<Refusal>
-    requires { ⌜ 16388 ≤ length (now lent) ⌝ }
+    requires { ⌜ 49156 ≤ length (now lent) ⌝ }
     ensures { λ r. ⌜ ((a : Asked) → Means (request .entry) a → First-refusal offered a r) ⌝ }
 {
     let Some(request) = if_offered(request, offered) else {

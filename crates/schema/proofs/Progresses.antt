@@ -30,11 +30,14 @@ use Rattle.schema.specs.Grammar.{Sort, the-rules, a-rule, many, grammar, parts
 use Rattle.schema.specs.Nodes.{own-tokens, sort-of, in-node, inside, run-of, string-in, rule-part}
 use Rattle.schema.specs.Reading.{Opens, Whole, Stuck, Node-at}
 use Rattle.schema.specs.Stacks.{number-sort, pending}
+use Rattle.schema.specs.declared.reading.Rules.{Rules}
 use Rattle.schema.specs.declared.reading.NoRules.{NoRules}
 use Rattle.schema.specs.declared.reading.NoRules.the-variants.{TooLittleLent, TooLarge, Wrong}
-use Rattle.schema.specs.Verdict.{Too-many, Wrong-at, Reached, Rules-at, Rules-told, Reads-back}
+use Rattle.schema.specs.Verdict.{Too-many, Wrong-at, Reached, Tabled, Rules-at, Rules-told, Is-read, Reads-back}
 use Rattle.schema.proofs.Trees.{rules-take, rules-in, are-completes, completes-are}
+use Rattle.schema.specs.Table.{rows, Row-written}
 use Rattle.schema.proofs.Places.{ceases-first}
+use Rattle.schema.proofs.Rows.{string-ends}
 use Rattle.schema.proofs.Parts.{parts-append, rules-count, node-weighs}
 
 -- where pending rules stop, they are wrong
@@ -97,51 +100,57 @@ opens-inside (OfField (Required key)) = tt
 opens-inside (OfField (Optional key)) = tt
 opens-inside (OfField Others) = tt
 
-module _ (bs stack : List ℕ) (s : Progress) (h : Reached bs stack s) where
+module _ (bs stack table : List ℕ) (s : Progress) (h : Reached bs stack table s) where
   -- an empty run on top
-  pub one-less : (k : ℕ) → s .depth ≡ k + 1 → pending stack (k + 1) ≡ pending stack k → Reached bs stack (record { at = s .at; depth = k; parts = s .parts })
+  pub one-less : (k : ℕ) → s .depth ≡ k + 1 → pending stack (k + 1) ≡ pending stack k → Reached bs stack table (record { at = s .at; depth = k; parts = s .parts; nodes = s .nodes })
   one-less k d e = record {
     few = h .few;
     deep = (let z = h .deep in omega arith);
-    tokens = h .tokens;
+    read = h .read;
     spelled = h .spelled;
-    takes = subst (λ ss. Takes grammar (the-rules ∷ []) (h .tokens) ss) (ap (pending stack) d ∙ e) (h .takes);
+    takes = subst (λ ss. Takes grammar (the-rules ∷ []) (h .read) ss) (ap (pending stack) d ∙ e) (h .takes);
     counted = h .counted;
+    listed = h .listed;
+    count = h .count;
+    tabled = h .tabled;
   }
 
   module _ (taken : List ℕ) (q : Node-sort) (top : pending stack (s .depth) ≡ sort-of q ∷ pending taken (s .depth)) where
-    one-pending : Takes grammar (the-rules ∷ []) (h .tokens) (sort-of q ∷ pending taken (s .depth))
-    one-pending = subst (λ ss. Takes grammar (the-rules ∷ []) (h .tokens) ss) top (h .takes)
+    one-pending : Takes grammar (the-rules ∷ []) (h .read) (sort-of q ∷ pending taken (s .depth))
+    one-pending = subst (λ ss. Takes grammar (the-rules ∷ []) (h .read) ss) top (h .takes)
 
     -- no node there
     pub no-node : (stop : Stop) → Node-at (sort-of q) bs (s .at) (Err stop) → Wrong-at bs (stop .place) × (Too-many bs → ⊥)
-    no-node stop f = (wrong-from bs stop (stop-after grammar (the-rules ∷ []) (sort-of q ∷ pending taken (s .depth)) (h .tokens) bs 0 (s .at) stop one-pending (h .spelled) (f (pending taken (s .depth)) .0)), not-too-many bs (h .tokens) (sort-of q ∷ pending taken (s .depth)) (s .at) one-pending (h .spelled) (let z = h .few in let y = h .counted in omega arith) (f (pending taken (s .depth)) .1))
+    no-node stop f = (wrong-from bs stop (stop-after grammar (the-rules ∷ []) (sort-of q ∷ pending taken (s .depth)) (h .read) bs 0 (s .at) stop one-pending (h .spelled) (f (pending taken (s .depth)) .0)), not-too-many bs (h .read) (sort-of q ∷ pending taken (s .depth)) (s .at) one-pending (h .spelled) (let z = h .few in let y = h .counted in omega arith) (f (pending taken (s .depth)) .1))
 
     -- one there
     module _ (x : NextNode) (node : Node-at (sort-of q) bs (s .at) (Ok x)) where
       more : List Token
-      more = h .tokens ++ own-tokens (x .node)
+      more = h .read ++ own-tokens (x .node)
 
-      spelled : Spelled-at (h .tokens ++ own-tokens (x .node)) bs 0 (x .next)
-      spelled = spelled-append (h .tokens) (own-tokens (x .node)) bs 0 (s .at) (x .next) (h .spelled) (node .2)
+      spelled : Spelled-at (h .read ++ own-tokens (x .node)) bs 0 (x .next)
+      spelled = spelled-append (h .read) (own-tokens (x .node)) bs 0 (s .at) (x .next) (h .spelled) (node .2)
 
-      taking : Takes grammar (the-rules ∷ []) (h .tokens ++ own-tokens (x .node)) (inside (x .node) ++ pending taken (s .depth))
-      taking = takes-append grammar (the-rules ∷ []) (sort-of q ∷ pending taken (s .depth)) (inside (x .node) ++ pending taken (s .depth)) (h .tokens) (own-tokens (x .node)) one-pending (node .3 (pending taken (s .depth)))
+      taking : Takes grammar (the-rules ∷ []) (h .read ++ own-tokens (x .node)) (inside (x .node) ++ pending taken (s .depth))
+      taking = takes-append grammar (the-rules ∷ []) (sort-of q ∷ pending taken (s .depth)) (inside (x .node) ++ pending taken (s .depth)) (h .read) (own-tokens (x .node)) one-pending (node .3 (pending taken (s .depth)))
 
-      counting : parts-in (the-rules ∷ []) (h .tokens ++ own-tokens (x .node)) ≡ s .parts + (rule-part q + (1 + string-in (x .node)))
-      counting = parts-append (the-rules ∷ []) (sort-of q ∷ pending taken (s .depth)) (h .tokens) (own-tokens (x .node)) one-pending ∙ (λ i. sym (h .counted) i + node-weighs q (x .node) (pending taken (s .depth)) (node .0) i)
+      counting : parts-in (the-rules ∷ []) (h .read ++ own-tokens (x .node)) ≡ s .parts + (rule-part q + (1 + string-in (x .node)))
+      counting = parts-append (the-rules ∷ []) (sort-of q ∷ pending taken (s .depth)) (h .read) (own-tokens (x .node)) one-pending ∙ (λ i. sym (h .counted) i + node-weighs q (x .node) (pending taken (s .depth)) (node .0) i)
 
       pub too-many : 8192 < s .parts + (rule-part q + (1 + string-in (x .node))) → Too-many bs
-      too-many l = (h .tokens ++ own-tokens (x .node), inside (x .node) ++ pending taken (s .depth), x .next, spelled, taking, whole-many (in-node (x .node) .1) (in-node (x .node) .0) (pending taken (s .depth)) (opens-inside (x .node)) (whole-pending taken (s .depth)), subst (λ n. 8192 < n) (sym counting) l)
+      too-many l = (h .read ++ own-tokens (x .node), inside (x .node) ++ pending taken (s .depth), x .next, spelled, taking, whole-many (in-node (x .node) .1) (in-node (x .node) .0) (pending taken (s .depth)) (opens-inside (x .node)) (whole-pending taken (s .depth)), subst (λ n. 8192 < n) (sym counting) l)
 
-      pub one-node : (new : List ℕ) (r : Run) (n : ℕ) → run-of r ≡ in-node (x .node) → pending new (s .depth + 1) ≡ many (r .count) (sort-of (r .sort)) ++ pending taken (s .depth) → n ≡ s .parts + (rule-part q + (1 + string-in (x .node))) → n ≤ 8192 → Reached bs new (record { at = x .next; depth = s .depth + 1; parts = n })
-      one-node new r n e p m l = record {
+      pub one-node : (new rowed : List ℕ) (r : Run) (n : ℕ) → Row-written table (s .nodes) (x .node) (x .next) rowed → run-of r ≡ in-node (x .node) → pending new (s .depth + 1) ≡ many (r .count) (sort-of (r .sort)) ++ pending taken (s .depth) → n ≡ s .parts + (rule-part q + (1 + string-in (x .node))) → n ≤ 8192 → Reached bs new rowed (record { at = x .next; depth = s .depth + 1; parts = n; nodes = s .nodes + 1 })
+      one-node new rowed r n row e p m l = record {
         few = l;
         deep = (let z = h .deep in omega arith);
-        tokens = h .tokens ++ own-tokens (x .node);
+        read = h .read ++ own-tokens (x .node);
         spelled = spelled;
-        takes = subst (λ ss. Takes grammar (the-rules ∷ []) (h .tokens ++ own-tokens (x .node)) ss) (sym (p ∙ ap (λ y. many (y .1) (y .0) ++ pending taken (s .depth)) e)) taking;
+        takes = subst (λ ss. Takes grammar (the-rules ∷ []) (h .read ++ own-tokens (x .node)) ss) (sym (p ∙ ap (λ y. many (y .1) (y .0) ++ pending taken (s .depth)) e)) taking;
         counted = m ∙ sym counting;
+        listed = (let z = h .listed in omega arith);
+        count = h .count;
+        tabled = ap (λ ts. ts ++ own-tokens (x .node)) (h .tabled) ∙ ap (λ ts. num (h .count) ∷ ts) (sym (row bs (string-ends (x .node) bs (s .at) (x .next) (node .2))));
       }
 
 -- THE BEGINNING AND THE END
@@ -152,23 +161,26 @@ no-number bs stop h =
     let (p, stuck) = ceases-first the-rules [] bs 0 stop h in
     (wrong-from bs stop p, not-too-many bs [] (the-rules ∷ []) 0 refl (omega arith, omega arith, refl) (omega arith) stuck)
 
-pub begun : (bs stack : List ℕ) (n end : ℕ) → Token-at number (num n) bs 0 end → pending stack 1 ≡ many n a-rule ++ [] → Reached bs stack (record { at = end; depth = 1; parts = 0 })
-unfolding Takes parts-in
-begun bs stack n end t e = record {
+pub begun : (bs stack table : List ℕ) (n end : ℕ) → Token-at number (num n) bs 0 end → pending stack 1 ≡ many n a-rule ++ [] → Reached bs stack table (record { at = end; depth = 1; parts = 0; nodes = 0 })
+unfolding Takes parts-in rows
+begun bs stack table n end t e = record {
   few = omega arith;
   deep = omega arith;
-  tokens = num n ∷ [];
+  read = num n ∷ [];
   spelled = spelled-one number (num n) bs 0 end t;
   takes = (t .0 .2 .1, sym e);
   counted = refl;
+  listed = omega arith;
+  count = n;
+  tabled = refl;
 }
 
-module _ (bs stack : List ℕ) (s : Progress) (h : Reached bs stack s) (z : s .depth ≡ 0) where
-  over : Takes grammar (the-rules ∷ []) (h .tokens) []
+module _ (bs stack table : List ℕ) (s : Progress) (h : Reached bs stack table s) (z : s .depth ≡ 0) where
+  over : Takes grammar (the-rules ∷ []) (h .read) []
   unfolding pending
-  over = subst (λ k. Takes grammar (the-rules ∷ []) (h .tokens) (pending stack k)) z (h .takes)
+  over = subst (λ k. Takes grammar (the-rules ∷ []) (h .read) (pending stack k)) z (h .takes)
 
-  front : take (s .at) bs ≡ spell (h .tokens)
+  front : take (s .at) bs ≡ spell (h .read)
   front = ap (λ k. take k bs) (let y : s .at ≡ s .at - 0 = omega arith in y) ∙ h .spelled .2
 
   -- bytes after the rules
@@ -180,26 +192,28 @@ module _ (bs stack : List ℕ) (s : Progress) (h : Reached bs stack s) (z : s .d
   wrong-after : s .at < length bs → Wrong-at bs (s .at)
   wrong-after l = record {
     within = omega arith;
-    begins = ([], completes-are (take (s .at) bs ++ []) (h .tokens, (append-nil (take (s .at) bs) ∙ front, over)));
+    begins = ([], completes-are (take (s .at) bs ++ []) (h .read, (append-nil (take (s .at) bs) ∙ front, over)));
     ends = λ _ (r, a).
         let (us, (e, f)) = are-completes (take (suc (s .at)) bs ++ r) a in
         let b = getD bs (s .at) 0 in
         let g : take (suc (s .at)) bs ≡ take (s .at) bs ++ b ∷ [] = ap (λ k. take k bs) (let y : suc (s .at) ≡ s .at + 1 = omega arith in y) ∙ take-more bs (s .at) 0 l in
         let j : take (s .at) bs ++ b ∷ r ≡ spell us = sym (append-assoc (take (s .at) bs) (b ∷ []) r) ∙ ap (λ w. w ++ r) (sym g) ∙ e in
-        let k = completes-free grammar (the-rules ∷ []) (h .tokens) us (take (s .at) bs) (b ∷ r) (front, over) (j, f) in
+        let k = completes-free grammar (the-rules ∷ []) (h .read) us (take (s .at) bs) (b ∷ r) (front, over) (j, f) in
         let y : suc (length r) ≡ 0 = ap length (k .1) in
         omega arith;
     short = λ e. absurd (omega arith);
   }
 
   pub trailing : s .at < length bs → Wrong-at bs (s .at) × (Too-many bs → ⊥)
-  trailing l = (wrong-after l, not-too-many bs (h .tokens) [] (s .at) over (h .spelled) (let y = h .few in let x = h .counted in omega arith) nothing-more)
+  trailing l = (wrong-after l, not-too-many bs (h .read) [] (s .at) over (h .spelled) (let y = h .few in let x = h .counted in omega arith) nothing-more)
 
   -- nothing after them
-  pub whole : length bs ≤ s .at → ((xs : List Schema) × Are-rules xs bs × (s .parts ≡ parts xs)) × (s .parts ≤ 8192) × (Too-many bs → ⊥)
+  pub whole : length bs ≤ s .at → ((xs : List Schema) × Are-rules xs bs × (s .parts ≡ parts xs) × Tabled xs bs table (s .nodes)) × (s .nodes ≤ s .parts) × (s .parts ≤ 8192) × (Too-many bs → ⊥)
   whole l =
-      let (xs, w, e) = rules-in (h .tokens) over in
-      ((xs, (sym (take-all (s .at) bs l) ∙ front ∙ ap spell e, w), h .counted ∙ ap (parts-in (the-rules ∷ [])) e ∙ rules-count xs), h .few, not-too-many bs (h .tokens) [] (s .at) over (h .spelled) (let y = h .few in let x = h .counted in omega arith) nothing-more)
+      let (xs, w, e) = rules-in (h .read) over in
+      let f : tokens xs ≡ num (h .count) ∷ rows bs table (s .nodes) = sym e ∙ h .tabled in
+      let k : h .count ≡ length xs = cc in
+      ((xs, (sym (take-all (s .at) bs l) ∙ front ∙ ap spell e, w), h .counted ∙ ap (parts-in (the-rules ∷ [])) e ∙ rules-count xs, f ∙ ap (λ n. num n ∷ rows bs table (s .nodes)) k), h .listed, h .few, not-too-many bs (h .read) [] (s .at) over (h .spelled) (let y = h .few in let x = h .counted in omega arith) nothing-more)
 
 -- READ BACK
 
@@ -209,10 +223,14 @@ nothing-left bs at [] rest end f p w = refl
 nothing-left bs at (t ∷ vs) rest end f p w = absurd f
 
 module _ (bs : List ℕ) (xs : List Schema) (w : Writable xs) (e : bs ≡ write xs) where
-  same-parts : (ys : List Schema) → Are-rules ys bs → parts ys ≡ parts xs
-  same-parts ys (f, v) =
-      let z = completes-free grammar (the-rules ∷ []) (tokens ys) (tokens xs) (write ys) [] (refl, rules-take ys v) (append-nil (write ys) ∙ sym f ∙ e, rules-take xs w) in
-      sym (rules-count ys) ∙ ap (parts-in (the-rules ∷ [])) (z .0) ∙ rules-count xs
+  same-tokens : (ys : List Schema) → Are-rules ys bs → tokens ys ≡ tokens xs
+  same-tokens ys (f, v) = completes-free grammar (the-rules ∷ []) (tokens ys) (tokens xs) (write ys) [] (refl, rules-take ys v) (append-nil (write ys) ∙ sym f ∙ e, rules-take xs w) .0
+
+  same-rules : (ys : List Schema) (table : List ℕ) (r : Rules) → Are-rules ys bs → r .parts ≡ parts ys → Tabled ys bs table (r .nodes) → Is-read xs bs table (Ok r)
+  same-rules ys table r f m t =
+      let z = same-tokens ys f in
+      let k : length ys ≡ length xs = cc in
+      (m ∙ sym (rules-count ys) ∙ ap (parts-in (the-rules ∷ [])) z ∙ rules-count xs, sym z ∙ t ∙ ap (λ n. num n ∷ rows bs table (r .nodes)) k)
 
   few-parts : parts xs ≤ 8192 → Too-many bs → ⊥
   few-parts l = not-too-many bs (tokens xs) [] (length bs) (rules-take xs w) (omega arith, omega arith, ap (λ k. take k bs) (let z : length bs - 0 ≡ length bs = omega arith in z) ∙ take-all (length bs) bs (omega arith) ∙ e) (omega (arith, rules-count xs)) (nothing-left bs (length bs))
@@ -223,14 +241,21 @@ module _ (bs : List ℕ) (xs : List Schema) (w : Writable xs) (e : bs ≡ write 
     | inr l ↦ h .short (let z = h .within in omega arith) (xs, (e, w))
   ]
 
-pub told-from : (lent : ℕ) (bs : List ℕ) (r : Result ℕ NoRules) → 16388 ≤ lent → Rules-at bs r → Rules-told lent bs r
-told-from lent bs (Ok n) l h = (l, h)
-told-from lent bs (Err TooLittleLent) l h = absurd h
-told-from lent bs (Err TooLarge) l h = (l, h)
-told-from lent bs (Err (Wrong p)) l h = (l, h)
+pub told-from : (Lent : Type 0) (bs table : List ℕ) (r : Result Rules NoRules) → Lent → Rules-at bs table r → Rules-told Lent bs table r
+told-from Lent bs table (Ok n) l h = (l, h)
+told-from Lent bs table (Err TooLittleLent) l h = absurd h
+told-from Lent bs table (Err TooLarge) l h = (l, h)
+told-from Lent bs table (Err (Wrong p)) l h = (l, h)
 
-pub reads-back : (lent : ℕ) (bs : List ℕ) (r : Result ℕ NoRules) → Rules-told lent bs r → Reads-back lent bs r
-reads-back lent bs (Ok n) (a, ((ys, f, m), b, c)) xs w e l k = ap Ok (m ∙ same-parts bs xs w e ys f)
-reads-back lent bs (Err TooLittleLent) h xs w e l k = absurd (omega arith)
-reads-back lent bs (Err TooLarge) (a, h) xs w e l k = absurd (few-parts bs xs w e l h)
-reads-back lent bs (Err (Wrong p)) (a, (h, b)) xs w e l k = absurd (not-wrong bs xs w e p h)
+pub reads-back : (Lent : Type 0) (bs table : List ℕ) (r : Result Rules NoRules) → Rules-told Lent bs table r → Reads-back Lent bs table r
+reads-back Lent bs table (Ok r) (a, ((ys, f, m, t), n, b, c)) xs w e l k = same-rules bs xs w e ys table r f m t
+reads-back Lent bs table (Err TooLittleLent) h xs w e l k = h k
+reads-back Lent bs table (Err TooLarge) (a, h) xs w e l k = few-parts bs xs w e l h
+reads-back Lent bs table (Err (Wrong p)) (a, (h, b)) xs w e l k = not-wrong bs xs w e p h
+
+-- with enough lent, the rules are told of
+pub told-at : (Lent : Type 0) (bs table : List ℕ) (r : Result Rules NoRules) → Lent → Rules-told Lent bs table r → Rules-at bs table r
+told-at Lent bs table (Ok n) l (_, h) = h
+told-at Lent bs table (Err TooLittleLent) l h = h l
+told-at Lent bs table (Err TooLarge) l (_, h) = h
+told-at Lent bs table (Err (Wrong p)) l (_, h) = h

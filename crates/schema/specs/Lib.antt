@@ -3,4 +3,5 @@ pub mod Grammar
 pub mod Nodes
 pub mod Reading
 pub mod Stacks
+pub mod Table
 pub mod Verdict

@@ -7,7 +7,7 @@ ghost use Rattle.schema.specs.Grammar.{many};
 ghost use Rattle.schema.specs.Nodes.{sort-of, in-schema, in-node, run-of, string-in, rule-part};
 ghost use Rattle.schema.specs.Reading.{Node-at};
 ghost use Rattle.schema.specs.Stacks.{number-sort, pending};
-ghost use Rattle.schema.specs.Verdict.{Reached, Advances, Rules-at, Rules-told, Reads-back};
+ghost use Rattle.schema.specs.Verdict.{Reached, Advances, Enough, Rules-at, Rules-told, Reads-back};
 use crate::nodes::Field;
 use crate::nodes::Group;
 use crate::nodes::NextNode;
@@ -18,6 +18,7 @@ use crate::nodes::Sort;
 use crate::nodes::read_field;
 use crate::nodes::read_group;
 use crate::nodes::read_schema;
+use crate::table::write_row;
 use cbor::reading::Stop;
 use sequence::reading::read_number;
 
@@ -27,6 +28,16 @@ pub const MOST_PARTS: usize = 8192;
 // How many numbers the stack takes: two for each run, and one run more than parts.
 pub const STACK: usize = 16388;
 
+// How many numbers the table takes: a row for each node, of which there are no more than parts.
+pub const TABLE: usize = 32768;
+
+// Rules that were read: how many nodes the table has, and how many parts they are.
+#[derive(Clone, Copy)]
+pub struct Rules {
+    pub nodes: usize,
+    pub parts: usize,
+}
+
 // Why bytes are no rules to look at.
 #[derive(Clone, Copy)]
 pub enum NoRules {
@@ -35,12 +46,13 @@ pub enum NoRules {
     Wrong(usize),
 }
 
-// How far reading has come: to which byte, with how many runs pending, after how many parts.
+// How far reading has come: to which byte, with how many runs pending, after how many parts and nodes.
 #[derive(Clone, Copy)]
 struct Progress {
     at: usize,
     depth: usize,
     parts: usize,
+    nodes: usize,
 }
 
 fn read_node<'a>(bytes: &'a [u8], at: usize, sort: Sort) -> Result<NextNode<'a>, Stop>
@@ -146,11 +158,16 @@ fn parts_of(sort: Sort, node: Node<'_>) -> usize
 }
 
 // One node more, or an empty run less.
-fn advance(bytes: &[u8], stack: &mut [u64], progress: Progress) -> Result<Progress, NoRules>
-    requires room { ⌜ 16388 ≤ length (now stack) ⌝ }
+fn advance(
+    bytes: &[u8],
+    stack: &mut [u64],
+    table: &mut [u64],
+    progress: Progress,
+) -> Result<Progress, NoRules>
+    requires room { ⌜ Enough (length (now stack)) (length (now table)) ⌝ }
     requires pending { ⌜ 0 < progress .depth ⌝ }
-    requires reached { ⌜ Reached (now bytes) (now stack) progress ⌝ }
-    ensures { λ r. ⌜ Advances (now (bytes .entry)) progress (now (stack .exit)) r ⌝ }
+    requires reached { ⌜ Reached (now bytes) (now stack) (now table) progress ⌝ }
+    ensures { λ r. ⌜ Advances (now (bytes .entry)) progress (now (stack .exit)) (now (table .exit)) r ⌝ }
 {
     let top = progress.depth - 1;
     if stack[2 * top + 1] == 0 {
@@ -158,6 +175,7 @@ fn advance(bytes: &[u8], stack: &mut [u64], progress: Progress) -> Result<Progre
             at: progress.at,
             depth: top,
             parts: progress.parts,
+            nodes: progress.nodes,
         });
     }
     let sort = take_one(stack, top);
@@ -170,16 +188,18 @@ fn advance(bytes: &[u8], stack: &mut [u64], progress: Progress) -> Result<Progre
         return Err(NoRules::TooLarge);
     }
     push(stack, progress.depth, in_node_of(read.node));
+    write_row(table, progress.nodes, read.node, read.next);
     Ok(Progress {
         at: read.next,
         depth: progress.depth + 1,
         parts,
+        nodes: progress.nodes + 1,
     })
 }
 
-fn read_all(bytes: &[u8], stack: &mut [u64]) -> Result<usize, NoRules>
-    requires { ⌜ 16388 ≤ length (now stack) ⌝ }
-    ensures { λ r. ⌜ Rules-at (now (bytes .entry)) r ⌝ }
+fn read_all(bytes: &[u8], stack: &mut [u64], table: &mut [u64]) -> Result<Rules, NoRules>
+    requires { ⌜ Enough (length (now stack)) (length (now table)) ⌝ }
+    ensures { λ r. ⌜ Rules-at (now (bytes .entry)) (now (table .exit)) r ⌝ }
 {
     let rules = match read_number(bytes, 0) {
         Ok(rules) => rules,
@@ -194,23 +214,27 @@ fn read_all(bytes: &[u8], stack: &mut [u64]) -> Result<usize, NoRules>
         at: rules.next,
         depth: 1,
         parts: 0,
+        nodes: 0,
     };
     while progress.depth > 0 {
-        progress = advance(bytes, stack, progress)?;
+        progress = advance(bytes, stack, table, progress)?;
     }
     if progress.at < bytes.len() {
         return Err(NoRules::Wrong(progress.at));
     }
-    Ok(progress.parts)
+    Ok(Rules {
+        nodes: progress.nodes,
+        parts: progress.parts,
+    })
 }
 
-// How many parts the rules have that some bytes are, or why they are none to look at.
-pub fn read_rules(bytes: &[u8], lent: &mut [u64]) -> Result<usize, NoRules>
-    ensures told { λ r. ⌜ Rules-told (length (now (lent .entry))) (now (bytes .entry)) r ⌝ }
-    ensures back { λ r. ⌜ Reads-back (length (now (lent .entry))) (now (bytes .entry)) r ⌝ }
+// The rules that some bytes are, as a table of their nodes, or why they are none to look at.
+pub fn read_rules(bytes: &[u8], stack: &mut [u64], table: &mut [u64]) -> Result<Rules, NoRules>
+    ensures told { λ r. ⌜ Rules-told (Enough (length (now (stack .entry))) (length (now (table .entry)))) (now (bytes .entry)) (now (table .exit)) r ⌝ }
+    ensures back { λ r. ⌜ Reads-back (Enough (length (now (stack .entry))) (length (now (table .entry)))) (now (bytes .entry)) (now (table .exit)) r ⌝ }
 {
-    if lent.len() < STACK {
+    if stack.len() < STACK || table.len() < TABLE {
         return Err(NoRules::TooLittleLent);
     }
-    read_all(bytes, lent)
+    read_all(bytes, stack, table)
 }

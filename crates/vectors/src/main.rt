@@ -4,6 +4,7 @@
 // What follows a # is a comment.
 mod hex;
 
+use answer::LENT;
 use answer::answer;
 use request::answers::AnswerDisplay;
 use schema::reading::NoRules;
@@ -20,7 +21,7 @@ fn main(rt: LibcRuntime) -> Result<(), AnyError> {
 
 fn run(rt: &LibcRuntime) -> Result<(), AnyError> {
     let heap = rt.alloc();
-    let mut lent = vec![in heap; 0u64; STACK]?;
+    let mut lent = vec![in heap; 0u64; LENT]?;
     let mut cases = 0u64;
     let mut differ = 0u64;
     for line in BufReader::new(rt.stdin()).lines(heap) {
@@ -65,8 +66,9 @@ fn answer_told(heap: Global, bytes: &[u8], lent: &mut [u64]) -> Result<String, A
 }
 
 fn rules_told(heap: Global, bytes: &[u8], lent: &mut [u64]) -> Result<String, AnyError> {
-    match read_rules(bytes, lent) {
-        Ok(parts) => Ok(format!(heap, "{parts} parts")?),
+    let (stack, table) = lent.split_at_mut(STACK);
+    match read_rules(bytes, stack, table) {
+        Ok(rules) => Ok(format!(heap, "{} parts", rules.parts)?),
         Err(NoRules::Wrong(place)) => Ok(format!(heap, "wrong at {place}")?),
         Err(NoRules::TooLarge) => Ok(format!(heap, "too large")?),
         Err(NoRules::TooLittleLent) => Err("too little is lent".into()),

@@ -10,10 +10,10 @@ returns-in-Err c = no-number (c .args .bytes .now) (c .in-Err .stop) (c .in-Err 
 
 pub loop-progress-holds : need.loop-progress-holds
 unfolding pending
-loop-progress-holds c = begun (c .args .bytes .now) (c .push .last .stack) (c .in-Ok .rules .argument) (c .in-Ok .rules .next) (c .in-Ok .ensures tt) (c .push .ensures)
+loop-progress-holds c = begun (c .args .bytes .now) (c .push .last .stack) (c .args .table .now) (c .in-Ok .rules .argument) (c .in-Ok .rules .next) (c .in-Ok .ensures tt) (c .push .ensures)
 
 pub returns-then-progress-bytes : need.returns-then-progress-bytes
-returns-then-progress-bytes c = trailing (c .args .bytes .now) (c .loop-progress .stack) (c .loop-progress .progress) (c .loop-progress .inv) (omega arith) (omega arith)
+returns-then-progress-bytes c = trailing (c .args .bytes .now) (c .loop-progress .stack) (c .loop-progress .table) (c .loop-progress .progress) (c .loop-progress .inv) (omega arith) (omega arith)
 
 pub returns : need.returns
-returns c = whole (c .args .bytes .now) (c .loop-progress .stack) (c .loop-progress .progress) (c .loop-progress .inv) (omega arith) (omega arith)
+returns c = whole (c .args .bytes .now) (c .loop-progress .stack) (c .loop-progress .table) (c .loop-progress .progress) (c .loop-progress .inv) (omega arith) (omega arith)
