@@ -66,6 +66,9 @@ fn answer_told(heap: Global, bytes: &[u8], lent: &mut [u64]) -> Result<String, A
 }
 
 fn rules_told(heap: Global, bytes: &[u8], lent: &mut [u64]) -> Result<String, AnyError> {
+    if lent.len() < STACK {
+        return Err("too little is lent".into());
+    }
     let (stack, table) = lent.split_at_mut(STACK);
     match read_rules(bytes, stack, table) {
         Ok(rules) => Ok(format!(heap, "{} parts", rules.parts)?),
