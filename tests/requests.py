@@ -8,18 +8,7 @@ import random
 import sys
 
 import rules
-
-
-def head(major, n):
-    if n < 24:
-        return bytes([32 * major + n])
-    for low, width in ((24, 1), (25, 2), (26, 4), (27, 8)):
-        if n < 256**width:
-            return bytes([32 * major + low]) + n.to_bytes(width, "big")
-
-
-def string(content):
-    return head(2, len(content)) + content
+from rules import head, string
 
 
 def step(rng):

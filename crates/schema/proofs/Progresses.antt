@@ -37,7 +37,6 @@ use Rattle.schema.specs.Verdict.{Too-many, Wrong-at, Reached, Tabled, Rules-at
 use Rattle.schema.proofs.Trees.{rules-take, rules-in, are-completes, completes-are}
 use Rattle.schema.specs.Table.{rows, Row-written}
 use Rattle.schema.proofs.Places.{ceases-first}
-use Rattle.schema.proofs.Rows.{string-ends}
 use Rattle.schema.proofs.Parts.{parts-append, rules-count, node-weighs}
 
 -- where pending rules stop, they are wrong
@@ -150,7 +149,7 @@ module _ (bs stack table : List ℕ) (s : Progress) (h : Reached bs stack table 
         counted = m ∙ sym counting;
         listed = (let z = h .listed in omega arith);
         count = h .count;
-        tabled = ap (λ ts. ts ++ own-tokens (x .node)) (h .tabled) ∙ ap (λ ts. num (h .count) ∷ ts) (sym (row bs (string-ends (x .node) bs (s .at) (x .next) (node .2))));
+        tabled = ap (λ ts. ts ++ own-tokens (x .node)) (h .tabled) ∙ ap (λ ts. num (h .count) ∷ ts) (sym (row bs (s .at) (node .2)));
       }
 
 -- THE BEGINNING AND THE END

@@ -13,13 +13,13 @@ use Rattle.cbor.specs.Encoding.{head}
 use Rattle.cbor.proofs.Places.{part-length, part-split}
 use Rattle.sequence.specs.Token.{Token, num, str, token-bytes, spell}
 use Rattle.sequence.specs.Reading.{Spelled-at}
-use Rattle.schema.specs.declared.nodes.Schema.the-variants.{Any, Unsigned, Negative, ByteLength, TextLength, Literal, Choice, Array, Map, Tag, Rule}
-use Rattle.schema.specs.declared.nodes.Field.the-variants.{Required, Optional, Others}
 use Rattle.schema.specs.declared.nodes.Node.{Node}
-use Rattle.schema.specs.declared.nodes.Node.the-variants.{OfSchema, OfGroup, OfField}
 use Rattle.schema.specs.declared.table.Row.{Row}
+use Rattle.schema.specs.declared.table.Entry.{Entry}
+use Rattle.schema.specs.declared.table.Form.{Form}
+use Rattle.schema.specs.declared.table.Form.the-variants.{String}
 use Rattle.schema.specs.Nodes.{own-tokens}
-use Rattle.schema.specs.Table.{row-says, row-at, rows, String-ends, Row-of, Row-written}
+use Rattle.schema.specs.Table.{row-says, row-at, rows, form-tokens, Entry-of, Row-of, Row-written}
 
 -- a number past the rows doesn't matter
 rows-set : (bs table : List ℕ) (j v n : ℕ) → 4 * n ≤ j → rows bs (set table j v) n ≡ rows bs table n
@@ -36,8 +36,8 @@ rows-more : (bs table : List ℕ) (n : ℕ) → rows bs table (n + 1) ≡ rows b
 unfolding rows
 rows-more bs table n = ap (rows bs table) (add-one n)
 
-pub row-written : (old : List ℕ) (n : ℕ) (x : Node) (next : ℕ) (r : Row) → 4 * n + 4 ≤ length old → Row-of x next r → Row-written old n x next (set (set (set (set old (4 * n) (r .opcode)) (4 * n + 1) (r .form)) (4 * n + 2) (r .first)) (4 * n + 3) (r .second))
-row-written old n x next r h says bs e =
+pub row-written : (old : List ℕ) (n : ℕ) (x : Node) (next : ℕ) (y : Entry) (r : Row) → 4 * n + 4 ≤ length old → Entry-of x y → Row-of y next r → Row-written old n x next (set (set (set (set old (4 * n) (r .opcode)) (4 * n + 1) (r .form)) (4 * n + 2) (r .first)) (4 * n + 3) (r .second))
+row-written old n x next y r h is says bs at e =
     let one = set old (4 * n) (r .opcode) in
     let two = set one (4 * n + 1) (r .form) in
     let three = set two (4 * n + 2) (r .first) in
@@ -50,7 +50,7 @@ row-written old n x next r h says bs e =
     let c : getD new (4 * n + 2) 0 ≡ r .first = getD-set-other three (4 * n + 3) (4 * n + 2) (r .second) 0 (λ z. omega arith) ∙ getD-set-same two (4 * n + 2) (r .first) 0 (omega arith) in
     let d : getD new (4 * n + 3) 0 ≡ r .second = getD-set-same three (4 * n + 3) (r .second) 0 (omega arith) in
     let p : rows bs new n ≡ rows bs old n = rows-set bs three (4 * n + 3) (r .second) n (omega arith) ∙ rows-set bs two (4 * n + 2) (r .first) n (omega arith) ∙ rows-set bs one (4 * n + 1) (r .form) n (omega arith) ∙ rows-set bs old (4 * n) (r .opcode) n (omega arith) in
-    rows-more bs new n ∙ (λ i. p i ++ row-says bs (a i) (b i) (c i) (d i)) ∙ ap (λ ts. rows bs old n ++ ts) (says bs e)
+    rows-more bs new n ∙ (λ i. p i ++ row-says bs (a i) (b i) (c i) (d i)) ∙ ap (λ ts. rows bs old n ++ ts) (says bs at (subst (λ ts. Spelled-at ts bs at next) (sym is) e) ∙ is)
 
 -- a string that is the last of some tokens ends where they do
 last-string : (n : ℕ) (k : List ℕ) (bs : List ℕ) (at end : ℕ) → Spelled-at (num n ∷ str k ∷ []) bs at end → take (length k) (drop (end - length k) bs) ≡ k
@@ -63,22 +63,10 @@ last-string n k bs at end (h, l, e) =
     let w : at + length u ≡ end - length k = omega arith in
     subst (λ j. take (length k) (drop j bs) ≡ k) w (subst (λ j. take j (drop (at + length u) bs) ≡ k) z b)
 
-pub string-ends : (x : Node) (bs : List ℕ) (at end : ℕ) → Spelled-at (own-tokens x) bs at end → String-ends bs x end
-string-ends (OfSchema Any) bs at end p = tt
-string-ends (OfSchema (Unsigned lo hi)) bs at end p = tt
-string-ends (OfSchema (Negative lo hi)) bs at end p = tt
-string-ends (OfSchema (ByteLength lo hi)) bs at end p = tt
-string-ends (OfSchema (TextLength lo hi)) bs at end p = tt
-string-ends (OfSchema (Literal item)) bs at end p = last-string 5 (now item) bs at end p
-string-ends (OfSchema Choice) bs at end p = tt
-string-ends (OfSchema Array) bs at end p = tt
-string-ends (OfSchema (Map count)) bs at end p = tt
-string-ends (OfSchema (Tag n)) bs at end p = tt
-string-ends (OfSchema (Rule n)) bs at end p = tt
-string-ends (OfGroup g) bs at end p = tt
-string-ends (OfField (Required key)) bs at end p = last-string 0 (now key) bs at end p
-string-ends (OfField (Optional key)) bs at end p = last-string 1 (now key) bs at end p
-string-ends (OfField Others) bs at end p = tt
+pub string-row : (o : ℕ) (f : Form) (s : RefT (List ℕ)) (next first : ℕ) → f ≡ String s → first ≡ next - length (now s) → (bs : List ℕ) (at : ℕ) → Spelled-at (form-tokens o f) bs at next → num o ∷ str (take (length (now s)) (drop first bs)) ∷ [] ≡ form-tokens o f
+string-row o f s next first e k bs at p =
+    let q : Spelled-at (num o ∷ str (now s) ∷ []) bs at next = subst (λ g. Spelled-at (form-tokens o g) bs at next) e p in
+    ap (λ w. num o ∷ str w ∷ []) (ap (λ j. take (length (now s)) (drop j bs)) k ∙ last-string o (now s) bs at next q) ∙ sym (ap (form-tokens o) e)
 
 -- no more of a part than there is
 pub clipped : (bs : List ℕ) (from size a b : ℕ) → a ≡ min from (length bs) → b ≡ min size (length (take (length bs - a) (drop a bs))) → take b (take (length bs - a) (drop a bs)) ≡ take size (drop from bs)

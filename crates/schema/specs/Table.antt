@@ -8,13 +8,8 @@ use denote.Ref.{now}
 use Rattle.std.specs.declared.option.Option.{Option}
 use Rattle.std.specs.declared.option.Option.the-variants.{Some, None}
 use Rattle.sequence.specs.Token.{Token, num, str}
-use Rattle.schema.specs.declared.nodes.Schema.{Schema}
-use Rattle.schema.specs.declared.nodes.Schema.the-variants.{Any, Unsigned, Negative, ByteLength, TextLength, Literal, Choice, Array, Map, Tag, Rule}
-use Rattle.schema.specs.declared.nodes.Group.{Group}
-use Rattle.schema.specs.declared.nodes.Field.{Field}
-use Rattle.schema.specs.declared.nodes.Field.the-variants.{Required, Optional, Others}
+use Rattle.sequence.specs.Reading.{Spelled-at}
 use Rattle.schema.specs.declared.nodes.Node.{Node}
-use Rattle.schema.specs.declared.nodes.Node.the-variants.{OfSchema, OfGroup, OfField}
 use Rattle.schema.specs.declared.table.Row.{Row}
 use Rattle.schema.specs.declared.table.Form.{Form}
 use Rattle.schema.specs.declared.table.Form.the-variants.{Bare, Number, Numbers, String}
@@ -35,37 +30,23 @@ unfoldable pub rows : List ℕ → List ℕ → ℕ → List Token
 rows bs table zero = []
 rows bs table (suc n) = rows bs table n ++ row-at bs table n
 
--- a node whose string, if it has one, ends at a place of the bytes
-abbrev pub String-ends : List ℕ → Node → ℕ → Type 0
-String-ends bs (OfSchema Any) next = Unit {0}
-String-ends bs (OfSchema (Unsigned lo hi)) next = Unit {0}
-String-ends bs (OfSchema (Negative lo hi)) next = Unit {0}
-String-ends bs (OfSchema (ByteLength lo hi)) next = Unit {0}
-String-ends bs (OfSchema (TextLength lo hi)) next = Unit {0}
-String-ends bs (OfSchema (Literal item)) next = take (length (now item)) (drop (next - length (now item)) bs) ≡ now item
-String-ends bs (OfSchema Choice) next = Unit {0}
-String-ends bs (OfSchema Array) next = Unit {0}
-String-ends bs (OfSchema (Map count)) next = Unit {0}
-String-ends bs (OfSchema (Tag n)) next = Unit {0}
-String-ends bs (OfSchema (Rule n)) next = Unit {0}
-String-ends bs (OfGroup g) next = Unit {0}
-String-ends bs (OfField (Required key)) next = take (length (now key)) (drop (next - length (now key)) bs) ≡ now key
-String-ends bs (OfField (Optional key)) next = take (length (now key)) (drop (next - length (now key)) bs) ≡ now key
-String-ends bs (OfField Others) next = Unit {0}
-
-abbrev pub Row-of : Node → ℕ → Row → Type 0
-Row-of x next r = (bs : List ℕ) → String-ends bs x next → row-says bs (r .opcode) (r .form) (r .first) (r .second) ≡ own-tokens x
-
--- one row more, and those before it as they were
-abbrev pub Row-written : List ℕ → ℕ → Node → ℕ → List ℕ → Type 0
-Row-written old i x next new = (bs : List ℕ) → String-ends bs x next → rows bs new (i + 1) ≡ rows bs old i ++ own-tokens x
-
 -- what an entry of the table is written in
 abbrev pub form-tokens : ℕ → Form → List Token
 form-tokens opcode Bare = num opcode ∷ []
 form-tokens opcode (Number a) = num opcode ∷ num a ∷ []
 form-tokens opcode (Numbers a b) = num opcode ∷ num a ∷ num b ∷ []
 form-tokens opcode (String s) = num opcode ∷ str (now s) ∷ []
+
+abbrev pub Entry-of : Node → Entry → Type 0
+Entry-of x e = form-tokens (e .opcode) (e .form) ≡ own-tokens x
+
+-- the row of an entry that ends at a place of the bytes
+abbrev pub Row-of : Entry → ℕ → Row → Type 0
+Row-of e next r = (bs : List ℕ) (at : ℕ) → Spelled-at (form-tokens (e .opcode) (e .form)) bs at next → row-says bs (r .opcode) (r .form) (r .first) (r .second) ≡ form-tokens (e .opcode) (e .form)
+
+-- one row more, and those before it as they were
+abbrev pub Row-written : List ℕ → ℕ → Node → ℕ → List ℕ → Type 0
+Row-written old i x next new = (bs : List ℕ) (at : ℕ) → Spelled-at (own-tokens x) bs at next → rows bs new (i + 1) ≡ rows bs old i ++ own-tokens x
 
 abbrev pub Entry-at : List ℕ → List ℕ → ℕ → Option Entry → Type 0
 Entry-at bs table i (Some e) = form-tokens (e .opcode) (e .form) ≡ row-at bs table i

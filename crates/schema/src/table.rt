@@ -1,8 +1,8 @@
 // The table of rules in lent numbers: a row for each node, in the order of their bytes.
 ghost use mathlib.Core.Path.{_≡_};
-ghost use Prim.Native.Nat.{_+_, _*_, _-_, _≤_};
+ghost use Prim.Native.Nat.{_+_, _*_, _≤_};
 ghost use lib.ListN.{length, take, drop};
-ghost use Rattle.schema.specs.Table.{Row-of, Row-written, Entry-at, Seen};
+ghost use Rattle.schema.specs.Table.{Entry-of, Row-of, Row-written, Entry-at, Seen};
 use crate::nodes::Field;
 use crate::nodes::Group;
 use crate::nodes::Node;
@@ -10,83 +10,6 @@ use crate::nodes::Schema;
 
 // How many numbers a row takes: the opcode, its form, and two numbers, or where a string stands and how long it is.
 pub const ROW: usize = 4;
-
-#[derive(Clone, Copy)]
-struct Row {
-    opcode: u64,
-    form: u64,
-    first: u64,
-    second: u64,
-}
-
-fn numbers(opcode: u64, form: u64, first: u64, second: u64) -> Row
-    ensures { λ r. ⌜ r ≡ record { opcode = opcode; form = form; first = first; second = second } ⌝ }
-{
-    Row {
-        opcode,
-        form,
-        first,
-        second,
-    }
-}
-
-// A string that ends at `next`.
-fn string(opcode: u64, length: usize, next: usize) -> Row
-    ensures { λ r. ⌜ r ≡ record { opcode = opcode; form = 3; first = next - length; second = length } ⌝ }
-{
-    Row {
-        opcode,
-        form: 3,
-        first: next.saturating_sub(length) as u64,
-        second: length as u64,
-    }
-}
-
-fn schema_row(schema: Schema<'_>, next: usize) -> Row
-    ensures { λ r. ⌜ Row-of (Node.OfSchema (schema .entry)) next r ⌝ }
-{
-    match schema {
-        Schema::Any => numbers(0, 0, 0, 0),
-        Schema::Unsigned(low, high) => numbers(1, 2, low, high),
-        Schema::Negative(low, high) => numbers(2, 2, low, high),
-        Schema::ByteLength(low, high) => numbers(3, 2, low, high),
-        Schema::TextLength(low, high) => numbers(4, 2, low, high),
-        Schema::Literal(item) => string(5, item.len(), next),
-        Schema::Choice => numbers(6, 0, 0, 0),
-        Schema::Array => numbers(7, 0, 0, 0),
-        Schema::Map(count) => numbers(8, 1, count, 0),
-        Schema::Tag(number) => numbers(9, 1, number, 0),
-        Schema::Rule(number) => numbers(10, 1, number, 0),
-    }
-}
-
-// The row of a node whose own numbers and strings end at `next`.
-fn row_of(node: Node<'_>, next: usize) -> Row
-    ensures { λ r. ⌜ Row-of (node .entry) next r ⌝ }
-{
-    match node {
-        Node::OfSchema(schema) => schema_row(schema, next),
-        Node::OfGroup(Group::Empty) => numbers(0, 0, 0, 0),
-        Node::OfGroup(Group::One) => numbers(1, 0, 0, 0),
-        Node::OfGroup(Group::Sequence) => numbers(2, 0, 0, 0),
-        Node::OfGroup(Group::FirstOf) => numbers(3, 0, 0, 0),
-        Node::OfGroup(Group::Repeat(low, high)) => numbers(4, 2, low, high),
-        Node::OfField(Field::Required(key)) => string(0, key.len(), next),
-        Node::OfField(Field::Optional(key)) => string(1, key.len(), next),
-        Node::OfField(Field::Others) => numbers(2, 0, 0, 0),
-    }
-}
-
-pub(crate) fn write_row(table: &mut [u64], index: usize, node: Node<'_>, next: usize)
-    requires { ⌜ 4 * index + 4 ≤ length (now table) ⌝ }
-    ensures { λ _. ⌜ Row-written (now (table .entry)) index (node .entry) next (now (table .exit)) ⌝ }
-{
-    let row = row_of(node, next);
-    table[ROW * index] = row.opcode;
-    table[ROW * index + 1] = row.form;
-    table[ROW * index + 2] = row.first;
-    table[ROW * index + 3] = row.second;
-}
 
 // What stands after an opcode.
 #[derive(Clone, Copy)]
@@ -101,6 +24,81 @@ enum Form<'a> {
 struct Entry<'a> {
     opcode: u64,
     form: Form<'a>,
+}
+
+#[derive(Clone, Copy)]
+struct Row {
+    opcode: u64,
+    form: u64,
+    first: u64,
+    second: u64,
+}
+
+fn schema_entry<'a>(schema: Schema<'a>) -> Entry<'a>
+    ensures { λ r. ⌜ Entry-of (Node.OfSchema (schema .entry)) r ⌝ }
+{
+    let (opcode, form) = match schema {
+        Schema::Any => (0, Form::Bare),
+        Schema::Unsigned(low, high) => (1, Form::Numbers(low, high)),
+        Schema::Negative(low, high) => (2, Form::Numbers(low, high)),
+        Schema::ByteLength(low, high) => (3, Form::Numbers(low, high)),
+        Schema::TextLength(low, high) => (4, Form::Numbers(low, high)),
+        Schema::Literal(item) => (5, Form::String(item)),
+        Schema::Choice => (6, Form::Bare),
+        Schema::Array => (7, Form::Bare),
+        Schema::Map(count) => (8, Form::Number(count)),
+        Schema::Tag(number) => (9, Form::Number(number)),
+        Schema::Rule(number) => (10, Form::Number(number)),
+    };
+    Entry { opcode, form }
+}
+
+fn entry_of<'a>(node: Node<'a>) -> Entry<'a>
+    ensures { λ r. ⌜ Entry-of (node .entry) r ⌝ }
+{
+    let (opcode, form) = match node {
+        Node::OfSchema(schema) => return schema_entry(schema),
+        Node::OfGroup(Group::Empty) => (0, Form::Bare),
+        Node::OfGroup(Group::One) => (1, Form::Bare),
+        Node::OfGroup(Group::Sequence) => (2, Form::Bare),
+        Node::OfGroup(Group::FirstOf) => (3, Form::Bare),
+        Node::OfGroup(Group::Repeat(low, high)) => (4, Form::Numbers(low, high)),
+        Node::OfField(Field::Required(key)) => (0, Form::String(key)),
+        Node::OfField(Field::Optional(key)) => (1, Form::String(key)),
+        Node::OfField(Field::Others) => (2, Form::Bare),
+    };
+    Entry { opcode, form }
+}
+
+// The row of an entry whose numbers and string end at `next`.
+fn row_of(entry: Entry<'_>, next: usize) -> Row
+    ensures { λ r. ⌜ Row-of (entry .entry) next r ⌝ }
+{
+    let (form, first, second) = match entry.form {
+        Form::Bare => (0, 0, 0),
+        Form::Number(number) => (1, number, 0),
+        Form::Numbers(first, second) => (2, first, second),
+        Form::String(content) => {
+            (3, next.saturating_sub(content.len()) as u64, content.len() as u64)
+        }
+    };
+    Row {
+        opcode: entry.opcode,
+        form,
+        first,
+        second,
+    }
+}
+
+pub(crate) fn write_row(table: &mut [u64], index: usize, node: Node<'_>, next: usize)
+    requires { ⌜ 4 * index + 4 ≤ length (now table) ⌝ }
+    ensures { λ _. ⌜ Row-written (now (table .entry)) index (node .entry) next (now (table .exit)) ⌝ }
+{
+    let row = row_of(entry_of(node), next);
+    table[ROW * index] = row.opcode;
+    table[ROW * index + 1] = row.form;
+    table[ROW * index + 2] = row.first;
+    table[ROW * index + 3] = row.second;
 }
 
 // As much of a part as there is.
