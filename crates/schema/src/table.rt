@@ -79,7 +79,11 @@ fn row_of(entry: Entry<'_>, next: usize) -> Row
         Form::Number(number) => (1, number, 0),
         Form::Numbers(first, second) => (2, first, second),
         Form::String(content) => {
-            (3, next.saturating_sub(content.len()) as u64, content.len() as u64)
+            (
+                3,
+                next.saturating_sub(content.len()) as u64,
+                content.len() as u64,
+            )
         }
     };
     Row {

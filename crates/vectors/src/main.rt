@@ -7,9 +7,15 @@ mod hex;
 use answer::LENT;
 use answer::answer;
 use request::answers::AnswerDisplay;
+use schema::nodes::Node;
 use schema::reading::NoRules;
 use schema::reading::STACK;
 use schema::reading::read_rules;
+use schema::table::field_at;
+use schema::table::group_at;
+use schema::table::schema_at;
+use schema::writing::write_node;
+use sequence::reading::read_number;
 use std::alloc::Global;
 use std::error::AnyError;
 use std::io::BufRead;
@@ -71,9 +77,42 @@ fn rules_told(heap: Global, bytes: &[u8], lent: &mut [u64]) -> Result<String, An
     }
     let (stack, table) = lent.split_at_mut(STACK);
     match read_rules(bytes, stack, table) {
-        Ok(rules) => Ok(format!(heap, "{} parts", rules.parts)?),
+        Ok(rules) if writes_back(heap, bytes, table, rules.nodes)? => {
+            Ok(format!(heap, "{} parts", rules.parts)?)
+        }
+        Ok(_) => Err("rules that are not written back".into()),
         Err(NoRules::Wrong(place)) => Ok(format!(heap, "wrong at {place}")?),
         Err(NoRules::TooLarge) => Ok(format!(heap, "too large")?),
         Err(NoRules::TooLittleLent) => Err("too little is lent".into()),
     }
+}
+
+fn node_at<'a>(bytes: &'a [u8], table: &[u64], index: usize) -> Option<Node<'a>> {
+    if let Some(schema) = schema_at(bytes, table, index) {
+        return Some(Node::OfSchema(schema));
+    }
+    if let Some(group) = group_at(bytes, table, index) {
+        return Some(Node::OfGroup(group));
+    }
+    let field = field_at(bytes, table, index)?;
+    Some(Node::OfField(field))
+}
+
+// Whether the nodes of the table, written one after another, are the bytes that follow the number of rules.
+fn writes_back(heap: Global, bytes: &[u8], table: &[u64], nodes: usize) -> Result<bool, AnyError> {
+    let Ok(count) = read_number(bytes, 0) else {
+        return Ok(false);
+    };
+    let mut out = vec![in heap; 0u8; bytes.len()]?;
+    let mut at = count.next;
+    for index in 0..nodes {
+        let Some(node) = node_at(bytes, table, index) else {
+            return Ok(false);
+        };
+        let Some(next) = write_node(out.as_mut_slice(), at, node) else {
+            return Ok(false);
+        };
+        at = next;
+    }
+    Ok(at == bytes.len() && out.as_slice().get(count.next..) == bytes.get(count.next..))
 }
