@@ -15,11 +15,12 @@ use Rattle.sequence.specs.Token.{Token, num, str, token-bytes, spell}
 use Rattle.sequence.specs.Reading.{Spelled-at}
 use Rattle.schema.specs.declared.nodes.Node.{Node}
 use Rattle.schema.specs.declared.table.Row.{Row}
-use Rattle.schema.specs.declared.table.Entry.{Entry}
-use Rattle.schema.specs.declared.table.Form.{Form}
-use Rattle.schema.specs.declared.table.Form.the-variants.{String}
+use Rattle.schema.specs.declared.entries.Entry.{Entry}
+use Rattle.schema.specs.declared.entries.Form.{Form}
+use Rattle.schema.specs.declared.entries.Form.the-variants.{String}
 use Rattle.schema.specs.Nodes.{own-tokens}
-use Rattle.schema.specs.Table.{row-says, row-at, rows, form-tokens, Entry-of, Row-of, Row-written}
+use Rattle.schema.specs.Entries.{form-tokens, Entry-of}
+use Rattle.schema.specs.Table.{row-says, row-at, rows, Row-of, Row-written}
 
 -- a number past the rows doesn't matter
 rows-set : (bs table : List ℕ) (j v n : ℕ) → 4 * n ≤ j → rows bs (set table j v) n ≡ rows bs table n

@@ -11,9 +11,8 @@ use Rattle.sequence.specs.Token.{Token, num, str}
 use Rattle.sequence.specs.Reading.{Spelled-at}
 use Rattle.schema.specs.declared.nodes.Node.{Node}
 use Rattle.schema.specs.declared.table.Row.{Row}
-use Rattle.schema.specs.declared.table.Form.{Form}
-use Rattle.schema.specs.declared.table.Form.the-variants.{Bare, Number, Numbers, String}
-use Rattle.schema.specs.declared.table.Entry.{Entry}
+use Rattle.schema.specs.declared.entries.Entry.{Entry}
+use Rattle.schema.specs.Entries.{form-tokens}
 use Rattle.schema.specs.Nodes.{own-tokens}
 
 -- what a row says: an opcode, and by its form no number more, one, two, or a string by where it stands and how long it is
@@ -29,16 +28,6 @@ row-at bs table i = row-says bs (getD table (4 * i) 0) (getD table (4 * i + 1) 0
 unfoldable pub rows : List ℕ → List ℕ → ℕ → List Token
 rows bs table zero = []
 rows bs table (suc n) = rows bs table n ++ row-at bs table n
-
--- what an entry of the table is written in
-abbrev pub form-tokens : ℕ → Form → List Token
-form-tokens opcode Bare = num opcode ∷ []
-form-tokens opcode (Number a) = num opcode ∷ num a ∷ []
-form-tokens opcode (Numbers a b) = num opcode ∷ num a ∷ num b ∷ []
-form-tokens opcode (String s) = num opcode ∷ str (now s) ∷ []
-
-abbrev pub Entry-of : Node → Entry → Type 0
-Entry-of x e = form-tokens (e .opcode) (e .form) ≡ own-tokens x
 
 -- the row of an entry that ends at a place of the bytes
 abbrev pub Row-of : Entry → ℕ → Row → Type 0

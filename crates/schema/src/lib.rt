@@ -1,4 +1,5 @@
 // Rules, after CDDL (RFC 8610): their bytes.
+mod entries;
 pub mod nodes;
 pub mod reading;
 pub mod table;
