@@ -85,7 +85,7 @@ fn entry_at<'a>(bytes: &'a [u8], table: &[u64], index: usize) -> Option<Entry<'a
     })
 }
 
-// The schema at a row of the table of some rules, which a part of the bytes may belong to.
+// The schema at a row of a table; a literal is a part of the bytes of the rules.
 pub fn schema_at<'a>(bytes: &'a [u8], table: &[u64], index: usize) -> Option<Schema<'a>>
     ensures { λ r. ⌜ Seen Node.OfSchema (now (bytes .entry)) (now (table .entry)) index r ⌝ }
 {
