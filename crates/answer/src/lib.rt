@@ -1,4 +1,7 @@
 // One function that answers any request.
+
+#![tactic(auto)]
+
 ghost use Rattle.std.specs.Prelude.{◌≤◌, length};
 ghost use Rattle.answer.specs.Promise.{Answers, RulesToldOf};
 

@@ -1,4 +1,7 @@
 // CBOR (RFC 8949) in its core deterministic encoding: one way only to write each item.
+
+#![tactic(auto)]
+
 ghost use Rattle.std.specs.Prelude.{◌≡◌};
 ghost use Rattle.cbor.specs.Encoding.{major_number};
 

@@ -1,4 +1,7 @@
 // Whether bytes are one item, the beginning of some, or exactly from which byte on they begin none.
+
+#![tactic(auto)]
+
 ghost use Rattle.check.specs.Checked.{Checked};
 
 use items::skipping::DEPTH;

@@ -1,4 +1,7 @@
 // Answers a file of binary requests, a line of text for each.
+
+#![tactic(auto)]
+
 mod command;
 mod fault;
 mod help;

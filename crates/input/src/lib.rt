@@ -1,4 +1,7 @@
 // The bytes of an input that are read and not yet taken, in one buffer.
+
+#![tactic(auto)]
+
 mod moves;
 mod reads;
 

@@ -1,4 +1,7 @@
 // The laws of items and their encoding, each the contract of a function.
+
+#![tactic(auto)]
+
 ghost use Rattle.laws.specs.Laws.{AtTheLimits, DecodedIsEncoded, EncodedIsBytes, EncodedIsDecoded, InsideIsShorter, KeysInOrder, MapsByValues, OneWay, SameBytes, TakesNoMore, Utf8ByCharacters};
 
 pub fn encoded_is_decoded_stands() -> u8

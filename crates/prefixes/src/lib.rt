@@ -1,4 +1,7 @@
 // What is promised of the first wrong byte, each the contract of a function.
+
+#![tactic(auto)]
+
 ghost use Rattle.prefixes.specs.Verdict.{BeginsIsPrefix, CheckIsRight, OneVerdict, RoomIsEntries, WalkIsRight};
 
 pub fn check_is_right_stands() -> u8

@@ -1,4 +1,7 @@
 // How far items reach that are known to be valid, and how many come after them.
+
+#![tactic(auto)]
+
 ghost use Rattle.std.specs.Prelude.{◌≡◌, suc, ◌+◌, ◌-◌, ◌<◌, ◌≤◌, [], length, drop, if◌then◌else◌, nat_eq, slice_index, slice_range};
 ghost use Rattle.cbor.specs.declared.Major.TheVariants.{Tag};
 ghost use Rattle.cbor.specs.Utf8.{tails, second};

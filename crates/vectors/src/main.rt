@@ -2,6 +2,9 @@
 //
 // A line is a request in hex digits, the sign =>, and its answer; or the word rules, the bytes of rules, and what reading them tells.
 // What follows a # is a comment.
+
+#![tactic(auto)]
+
 mod hex;
 
 use answer::{LENT, answer};
