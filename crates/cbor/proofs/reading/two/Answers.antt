@@ -6,4 +6,4 @@ pub returns : goal.returns
 returns c =
     let at = c.args.at in
     let bs = c.args.bytes.now in
-    omega (arith, c.type-inv.bytes at, number_at at 1 1 bs (omega arith), number_one at bs (omega arith), number_one (at + 1) bs (omega arith))
+    omega (arith, c.type_inv.bytes at, number_at at 1 1 bs (omega arith), number_one at bs (omega arith), number_one (at + 1) bs (omega arith))

@@ -8,4 +8,4 @@ returns c =
     let w = c.args.content.now in
     let at = c.args.at in
     let k : at + length w - at ≡ length w = omega arith in
-    (refl, omega arith, (λ i. take at old ++ (c.copy-from-slice.ensures.after i ++ (drop-drop (at + length w - at) at old ∙ ap (λ n. drop (at + n) old) k) i)))
+    (refl, omega arith, (λ i. take at old ++ (c.copy_from_slice.ensures.after i ++ (drop-drop (at + length w - at) at old ∙ ap (λ n. drop (at + n) old) k) i)))

@@ -4,6 +4,6 @@ use Rattle.cbor.proofs.writing.write_head.Goals as goal
 
 pub returns : goal.returns
 returns c =
-    let n = c.head-bytes-head.result.size in
-    let e = ap (λ k. take k c.head-bytes-head.result.bytes) (let z : n - 0 ≡ n = omega arith in z) ∙ c.head-bytes-head.ensures.bytes in
-    subst (λ w. Writes c.args.out.now c.args.at w c.write-bytes.new.out c.write-bytes.result) e c.write-bytes.ensures
+    let n = c.head_bytes-head.result.size in
+    let e = ap (λ k. take k c.head_bytes-head.result.bytes) (let z : n - 0 ≡ n = omega arith in z) ∙ c.head_bytes-head.ensures.bytes in
+    subst (λ w. Writes c.args.out.now c.args.at w c.write_bytes.new.out c.write_bytes.result) e c.write_bytes.ensures

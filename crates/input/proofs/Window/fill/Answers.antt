@@ -20,18 +20,18 @@ returns-then-least-gt-BUFFER g c =
 pub returns-in-Ok-eq0 : goal.returns-in-Ok-eq0
 returns-in-Ok-eq0 g c =
     let same = c.in-Ok-eq0.ensures.len in
-    record { grown = grown_trans _ _ _ c.loop.invariant.0 c.read-more.ensures.grown; came = search (rules, c.loop.invariant.1.1) }
+    record { grown = grown_trans _ _ _ c.loop.invariant.0 c.read_more.ensures.grown; came = search (rules, c.loop.invariant.1.1) }
 
 pub returns-then-len-least : goal.returns-then-len-least
-returns-then-len-least g c = record { grown = grown_trans _ _ _ c.loop.invariant.0 c.read-more.ensures.grown; came = search rules }
+returns-then-len-least g c = record { grown = grown_trans _ _ _ c.loop.invariant.0 c.read_more.ensures.grown; came = search rules }
 
 pub returns-then-ne : goal.returns-then-ne
-returns-then-ne g c = record { grown = grown_trans _ _ _ c.loop.invariant.0 c.read-more.ensures.grown; came = search rules }
+returns-then-ne g c = record { grown = grown_trans _ _ _ c.loop.invariant.0 c.read_more.ensures.grown; came = search rules }
 
 pub loop-preserved : goal.loop-preserved
 loop-preserved g c = (
-  grown_trans _ _ _ c.loop.invariant.0 c.read-more.ensures.grown,
-  elim c.match-read-more.branch [
+  grown_trans _ _ _ c.loop.invariant.0 c.read_more.ensures.grown,
+  elim c.match-read_more.branch [
     | in-Ok+else-len-least w ↦
         let few = w.if-len-least.false in
         (omega (arith, w.len-in-Ok.ensures, few), λ _. omega (arith, w.len-in-Ok.ensures, few))

@@ -3,11 +3,11 @@ use Rattle.input.specs.Unread.{unread}
 use Rattle.input.proofs.Cuts.{skipped, unread_length}
 use Rattle.input.proofs.Window.skip.Goals as goal
 
-pub overflow-add-self : goal.overflow-add-self
-overflow-add-self c = search (rules, unread_length c.args.self.now)
+pub overflow_add-self : goal.overflow_add-self
+overflow_add-self c = search (rules, unread_length c.args.self.now)
 
-pub invariant-of-self : goal.invariant-of-self
-invariant-of-self c = search (rules, unread_length c.args.self.now)
+pub invariant_of-self : goal.invariant_of-self
+invariant_of-self c = search (rules, unread_length c.args.self.now)
 
 pub returns : goal.returns
 unfolding unread

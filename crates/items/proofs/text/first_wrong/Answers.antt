@@ -9,8 +9,8 @@ returns-in-Err c = char_wrong c.args.size c.args.bytes.now c.loop-at.at c.loop-a
 pub loop-at-preserved : goal.loop-at-preserved
 loop-at-preserved c =
     let (a, b, d, e) = c.in-Ok.ensures in
-    let (f, g, h) = c.plain-end-at-in-Ok.ensures in
-    (g, chars_more c.args.size c.args.bytes.now c.loop-at.at c.loop-at.invariant.1 c.in-Ok.next c.plain-end-at-in-Ok.result (omega arith) f e h)
+    let (f, g, h) = c.plain_end-at-in-Ok.ensures in
+    (g, chars_more c.args.size c.args.bytes.now c.loop-at.at c.loop-at.invariant.1 c.in-Ok.next c.plain_end-at-in-Ok.result (omega arith) f e h)
 
 pub returns : goal.returns
 returns c =

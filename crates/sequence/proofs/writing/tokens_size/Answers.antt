@@ -10,26 +10,26 @@ pub loop-token-init : goal.loop-token-init
 unfolding spell
 loop-token-init c = refl
 
-pub returns-in-err-token-size : goal.returns-in-err-token-size
-returns-in-err-token-size c =
+pub returns-in_err-token_size : goal.returns-in_err-token_size
+returns-in_err-token_size c =
     let ts = c.args.tokens.now in
     let i = c.loop-token.token-index in
-    rw c.from-residual.ensures (omega (arith, c.in-err-token-size.ensures, spelled_part ts i (omega arith), length-append (spell (tokens_of (take i ts))) (token_bytes (token_of (get_or ts i (Number 0))))))
+    rw c.from_residual.ensures (omega (arith, c.in_err-token_size.ensures, spelled_part ts i (omega arith), length-append (spell (tokens_of (take i ts))) (token_bytes (token_of (get_or ts i (Number 0))))))
 
-pub returns-in-err-size : goal.returns-in-err-size
-returns-in-err-size c =
+pub returns-in_err-size : goal.returns-in_err-size
+returns-in_err-size c =
     let ts = c.args.tokens.now in
     let i = c.loop-token.token-index in
-    rw c.from-residual-in-err-size.ensures (elim (cases_lt (c.loop-token.size + c.in-ok-token-size.field-0) 18446744073709551616) [
-      | inl h ↦ absurd (c.in-err-size.ensures h)
-      | inr h ↦ omega (arith, c.loop-token.invariant, c.in-ok-token-size.ensures, spelled_part ts i (omega arith), length-append (spell (tokens_of (take i ts))) (token_bytes (token_of (get_or ts i (Number 0)))))
+    rw c.from_residual-in_err-size.ensures (elim (cases_lt (c.loop-token.size + c.in_ok-token_size.field-0) 18446744073709551616) [
+      | inl h ↦ absurd (c.in_err-size.ensures h)
+      | inr h ↦ omega (arith, c.loop-token.invariant, c.in_ok-token_size.ensures, spelled_part ts i (omega arith), length-append (spell (tokens_of (take i ts))) (token_bytes (token_of (get_or ts i (Number 0)))))
     ])
 
 pub loop-token-preserved : goal.loop-token-preserved
 loop-token-preserved c =
     let ts = c.args.tokens.now in
     let i = c.loop-token.token-index in
-    omega (arith, c.loop-token.invariant, c.in-ok-size.ensures, c.in-ok-token-size.ensures, ap length (spelled_more ts i (omega arith)), length-append (spell (tokens_of (take i ts))) (token_bytes (token_of (get_or ts i (Number 0)))))
+    omega (arith, c.loop-token.invariant, c.in_ok-size.ensures, c.in_ok-token_size.ensures, ap length (spelled_more ts i (omega arith)), length-append (spell (tokens_of (take i ts))) (token_bytes (token_of (get_or ts i (Number 0)))))
 
 pub returns : goal.returns
 returns c = c.loop-token.invariant ∙ ap length (spelled_all c.args.tokens.now c.loop-token.token-index (omega arith))

@@ -16,5 +16,5 @@ pub returns-in-ok-next : goal.returns-in-ok-next
 returns-in-ok-next c =
     let bs = c.in-Bytes.content.now in
     let e = ap (λ t. length (token_bytes (token_of t))) c.in-Bytes.is in
-    subst (λ t. Writes c.args.out.now c.args.at (token_bytes (token_of t)) c.write-bytes.new.out c.write-bytes.result) (sym c.in-Bytes.is)
-    (writes_then c.args.out.now c.write-head-in-Bytes.new.out c.write-bytes.new.out (head 2 (length bs)) bs c.args.at c.in-ok-next.next c.write-bytes.result (omega (arith, c.in-ok-size.ensures, e)) c.in-ok-next.ensures c.write-bytes.ensures)
+    subst (λ t. Writes c.args.out.now c.args.at (token_bytes (token_of t)) c.write_bytes.new.out c.write_bytes.result) (sym c.in-Bytes.is)
+    (writes_then c.args.out.now c.write_head-in-Bytes.new.out c.write_bytes.new.out (head 2 (length bs)) bs c.args.at c.in-ok-next.next c.write_bytes.result (omega (arith, c.in-ok-size.ensures, e)) c.in-ok-next.ensures c.write_bytes.ensures)

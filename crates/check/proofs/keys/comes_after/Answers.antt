@@ -1,5 +1,0 @@
-use Rattle.check.proofs.Entries.{key_not_after}
-use Rattle.check.proofs.keys.comes_after.Goals as goal
-
-pub returns-in-default-compare : goal.returns-in-default-compare
-returns-in-default-compare c = key_not_after c.args.bytes.now c.args.last c.in-Some.field-0 c.args.at c.args.end c.compare.result c.in-Some.is c.compare.ensures c.in-default-compare.not-Before

@@ -1,0 +1,31 @@
+use Rattle.std.proofs.Common.{◌≡◌, ℕ, ◌+◌, ◌*◌, ◌≤◌, length, drop, Result}
+use Rattle.prefixes.specs.Walks.{walk, walk_many}
+use Rattle.checker.specs.declared.Stop.{Stop}
+use Rattle.checker.specs.Ends.{Ends}
+use Rattle.checker.proofs.Entries.{GoesOn}
+use Rattle.checker.proofs.walking.+walk_walk_entries_walk_items.Given as goal
+
+abbrev pub decreases-walk : goal.decreases-walk
+decreases-walk l = 2 * l.depth
+
+abbrev pub decreases-walk-items : goal.decreases-walk-items
+decreases-walk-items l = 2 * l.depth + 1
+
+-- what is left gives the whole
+abbrev pub invariant-walk-items-items : goal.invariant-walk-items-items
+invariant-walk-items-items l =
+    (l.next ≤ length l.bytes) × (2 * l.depth ≤ length l.lent)
+    × ((r : Result ℕ Stop) → Ends l.bytes l.next r (walk_many (walk l.depth 0) l.left (drop l.next l.bytes)) → Ends l.bytes l.at r (walk_many (walk l.depth 0) l.count (drop l.at l.bytes)))
+
+abbrev pub decreases-walk-items-items : goal.decreases-walk-items-items
+decreases-walk-items-items l = l.left
+
+abbrev pub decreases-walk-entries : goal.decreases-walk-entries
+decreases-walk-entries l = 2 * l.depth + 1
+
+abbrev pub invariant-walk-entries-entries : goal.invariant-walk-entries-entries
+invariant-walk-entries-entries l =
+    (l.next ≤ length l.bytes) × (l.left ≤ l.count) × (length l.own_val ≡ 2) × (2 * l.depth ≤ length l.rest) × GoesOn l.bytes l.depth l.own_val l.next l.left l.at l.count
+
+abbrev pub decreases-walk-entries-entries : goal.decreases-walk-entries-entries
+decreases-walk-entries-entries l = l.left

@@ -1,0 +1,36 @@
+-- What code tells of lent bytes from a place on, held to what the walk tells of the bytes that are left there.
+use Rattle.std.specs.Prelude.{◌≡◌, ℕ, ◌+◌, ◌-◌, ◌<◌, ◌≤◌, List, length, take, drop, Ok, Err, Result}
+use Rattle.cbor.specs.declared.Major.{Major}
+use Rattle.cbor.specs.Encoding.{major_number}
+use Rattle.items.specs.declared.skipping.ItemHead.{ItemHead}
+use Rattle.prefixes.specs.Walks.{Told, done, cut, wrong}
+use Rattle.checker.specs.declared.Stop.{Stop}
+use Rattle.checker.specs.declared.Stop.TheVariants.{Cut, Wrong}
+
+-- a word from one place to another, and what it says
+abbrev pub Ended : {I : Type 0} → List ℕ → ℕ → ℕ → I → Told I → Type 0
+Ended bs at end i t = (at ≤ end) × (end ≤ length bs) × (t ≡ done i (take (end - at) (drop at bs)) (drop end bs))
+
+abbrev pub Stops : {I : Type 0} → ℕ → Stop → Told I → Type 0
+Stops at Cut t = t ≡ cut
+Stops at (Wrong p) t = (at ≤ p) × (t ≡ wrong (p - at))
+
+-- only where it ends, whatever it says
+abbrev pub Ends : {I : Type 0} → List ℕ → ℕ → Result ℕ Stop → Told I → Type 0
+Ends {I} bs at (Ok end) t = (i : I) × Ended bs at end i t
+Ends bs at (Err s) t = Stops at s t
+
+abbrev pub Headed : List ℕ → ℕ → Result ItemHead Stop → Told (Major × ℕ) → Type 0
+Headed bs at (Ok h) t = Ended bs at h.next (h.major, h.argument) t
+Headed bs at (Err s) t = Stops at s t
+
+-- arrays, maps and tags only where depth is left
+abbrev pub Deep : ℕ → Result ItemHead Stop → Type 0
+Deep d (Ok h) = 4 ≤ major_number h.major → major_number h.major < 7 → 0 < d
+Deep d (Err s) = Unit {0}
+
+-- so many bytes, or fewer
+abbrev pub BytesTold : List ℕ → ℕ → ℕ → Result ℕ Stop → Type 0
+BytesTold bs at n (Ok end) = (end ≡ at + n) × (end ≤ length bs)
+BytesTold bs at n (Err Cut) = length bs < at + n
+BytesTold bs at n (Err (Wrong p)) = ⊥

@@ -1,0 +1,55 @@
+-- The keys of a map at places: the last one, whether the next comes after it, and where it is at odds with it.
+use Rattle.std.specs.Prelude.{◌≡◌, ℕ, suc, ◌+◌, ◌-◌, ◌<◌, ◌≤◌, Bool, true, false, List, [], ◌∷◌, length, drop, Some, None, Option, slice_index, slice_range}
+use Rattle.cbor.specs.Order.{before}
+use Rattle.prefixes.specs.Words.{Reach, Room}
+use Rattle.prefixes.specs.Shapes.{ItemAt}
+use Rattle.prefixes.specs.Walks.{Told, done, cut, wrong, odd_at, next_key, walk}
+use Rattle.checker.specs.declared.Stop.{Stop}
+use Rattle.checker.specs.declared.Stop.TheVariants.{Cut, Wrong}
+use Rattle.checker.specs.declared.keys.KeySpan.{KeySpan}
+use Rattle.checker.specs.Ends.{Ended, Stops}
+
+abbrev pub part : List ℕ → ℕ → ℕ → List ℕ
+part bs at end = slice_range bs at end
+
+-- as a map keeps it in two numbers
+abbrev pub Kept : List ℕ → Option KeySpan → Type 0
+Kept own (Some s) = (s.start ≡ slice_index own 0) × (s.end ≡ slice_index own 1) × (0 < s.end)
+Kept own None = slice_index own 1 ≡ 0
+
+abbrev pub KeyWithin : List ℕ → Option KeySpan → Type 0
+KeyWithin bs (Some s) = (s.start ≤ s.end) × (s.end ≤ length bs)
+KeyWithin bs None = Unit {0}
+
+-- whether the key from one place to another comes after it
+abbrev pub AfterLast : List ℕ → Option KeySpan → ℕ → ℕ → Bool → Type 0
+AfterLast bs (Some s) at end r = r ≡ before (part bs s.start s.end) (part bs at end)
+AfterLast bs None at end r = r ≡ true
+
+-- where a key is at odds with as much of the last one as it reaches
+abbrev pub OddOf : List ℕ → List ℕ → Option ℕ → Type 0
+OddOf l q (Some j) = (odd_at (length l) l q ≡ j ∷ []) × (j < length l)
+OddOf l q None = odd_at (length l) l q ≡ []
+
+abbrev pub OddTold : List ℕ → ℕ → ℕ → ℕ → Option ℕ → Type 0
+OddTold bs last reach at (Some j) = (odd_at reach (drop last bs) (drop at bs) ≡ j ∷ []) × (j < reach)
+OddTold bs last reach at None = odd_at reach (drop last bs) (drop at bs) ≡ []
+
+-- the last key in places, and as the walk has it: an item with its reach, after which there is room
+abbrev pub LastAt : List ℕ → ℕ → ℕ → Option KeySpan → List (List ℕ × ℕ) → Type 0
+LastAt bs d n None [] = Unit {0}
+LastAt bs d n None (k ∷ ks) = ⊥
+LastAt bs d n (Some s) [] = ⊥
+LastAt bs d n (Some s) (k ∷ ks) =
+    (k.0 ≡ part bs s.start s.end) × ItemAt d k.0 × Reach (ItemAt d) k.0 k.1 × Room (ItemAt d) k.0 n
+    × ((r : ℕ) × (a : ℕ) × Ended bs s.start s.end (k.1, a) (walk d r (drop s.start bs)))
+
+-- a key that stops is refused where it stops, or where it is at odds with the last one before
+abbrev pub Refused : List ℕ → ℕ → Option KeySpan → ℕ → Stop → Stop → Type 0
+Refused bs d last at stop r = (n : ℕ) (ls : List (List ℕ × ℕ)) (t : Told (ℕ × ℕ)) → LastAt bs d n last ls → Stops at stop t → Stops at r (next_key ls (drop at bs) t)
+
+-- a whole key that does not come after the last one is refused where it is at odds with it
+abbrev pub Misplaced : List ℕ → ℕ → Option KeySpan → ℕ → ℕ → Type 0
+Misplaced bs d last at p =
+    (n end : ℕ) (i : ℕ × ℕ) (ls : List (List ℕ × ℕ)) (t : Told (ℕ × ℕ)) → LastAt bs d (suc n) last ls → ItemAt d (part bs at end) → Ended bs at end i t → AfterLast bs last at end false
+    → Stops at (Wrong p) (next_key ls (drop at bs) t)

@@ -1,0 +1,72 @@
+// The head of an item, by how deep it stands and how many keys have to come after it.
+ghost use Rattle.std.specs.Prelude.{◌≡◌, ℕ, ◌<◌, true, length, drop, slice_index};
+ghost use Rattle.prefixes.specs.Walks.{first_for, walk_head};
+ghost use Rattle.checker.specs.Ends.{Headed, Deep};
+
+use crate::Stop;
+use cbor::Major;
+use cbor::reading::read_head;
+use items::skipping::{ItemHead, major_of};
+
+// Whether an item may begin so.
+fn may_begin(first: u8, depth: u8, demand: u64) -> bool
+    ensures { result ≡ first_for depth demand first }
+{
+    if first & 31 > 27 {
+        return false;
+    }
+    if first < 0x80 {
+        return true;
+    }
+    if first < 0xe0 {
+        return depth > 0;
+    }
+    first <= 0xf8 && u64::from(first - 0xe0) + demand.min(256) <= 247
+}
+
+// The head of a simple value from 32 on, whose first byte is there.
+fn long_simple(bytes: &[u8], at: usize, demand: u64) -> Result<ItemHead, Stop>
+    requires at_in_bounds { at < length bytes.now }
+    requires at_value { slice_index bytes.now at ≡ 248 }
+    ensures { (depth : ℕ) → first_for depth demand 248 ≡ true → Headed bytes.now at result (walk_head depth demand (drop at bytes.now)) }
+{
+    let place = at + 1;
+    if place >= bytes.len() {
+        return Err(Stop::Cut);
+    }
+    let value = bytes[place];
+    if value < 32 || u64::from(255 - value) < demand {
+        return Err(Stop::Wrong(place));
+    }
+    Ok(ItemHead {
+        major: Major::Simple,
+        argument: u64::from(value),
+        next: at + 2,
+    })
+}
+
+pub(crate) fn head_of(bytes: &[u8], at: usize, depth: u8, demand: u64) -> Result<ItemHead, Stop>
+    ensures told { Headed bytes.now at result (walk_head depth demand (drop at bytes.now)) }
+    ensures deep { Deep depth result }
+{
+    if at >= bytes.len() {
+        return Err(Stop::Cut);
+    }
+    let first = bytes[at];
+    if !may_begin(first, depth, demand) {
+        return Err(Stop::Wrong(at));
+    }
+    if first == 0xf8 {
+        return long_simple(bytes, at, demand);
+    }
+    let major = major_of(first >> 5);
+    match read_head(bytes, at, major) {
+        Ok(head) => Ok(ItemHead {
+            major,
+            argument: head.argument,
+            next: head.next,
+        }),
+        Err(stop) if stop.place < bytes.len() => Err(Stop::Wrong(stop.place)),
+        Err(_) => Err(Stop::Cut),
+    }
+}
