@@ -1,5 +1,5 @@
 -- An encoding is bytes, and some; what stands in an item has fewer.
-use Rattle.std.proofs.Common.{◌≡◌, ℕ, ◌<◌, ◌≤◌, ◌++◌, length, ap, inl, inr, arith, length-append}
+use Rattle.std.proofs.Common.{◌≡◌, ◌<◌, ◌≤◌, ◌++◌, length, ap, inl, inr, arith, length-append}
 use Rattle.cbor.specs.Item.{Item, unsigned, negative, byte_string, text_string, array, map, tag, simple, Items, no_item, more_items, Entries, no_entry, more_entries, how_many, how_many_entries}
 use Rattle.cbor.specs.Encoding.{encode, encode_items, encode_entries}
 use Rattle.cbor.proofs.Items.{after_head, encode_not_empty, item_bytes}

@@ -1,5 +1,5 @@
 -- There are items at every limit.
-use Rattle.std.proofs.Common.{◌≡◌, ℕ, zero, suc, ◌+◌, ◌-◌, ◌*◌, ◌/◌, ◌%◌, ◌^◌, ◌<◌, true, false, [], ◌∷◌, replicate, sym, refl, ap, ◌∙◌, inl, inr, pow-suc, arith}
+use Rattle.std.proofs.Common.{◌≡◌, ℕ, zero, suc, ◌+◌, ◌-◌, ◌*◌, ◌/◌, ◌%◌, ◌^◌, ◌<◌, ◌≤◌, true, false, [], ◌∷◌, replicate, sym, refl, ap, ◌∙◌, inl, inr, pow-suc, arith}
 use Rattle.std.proofs.lemmas.Nat.{div_below}
 use Rattle.std.proofs.lemmas.List.{length-replicate}
 use Rattle.std.proofs.lemmas.Bool.{lt-ltb, and_from, cases_lt}
@@ -9,7 +9,7 @@ use Rattle.cbor.specs.Encoding.{all_bytes, to_bytes, head, encode}
 use Rattle.cbor.specs.Order.{before}
 use Rattle.cbor.specs.Utf8.{utf8}
 use Rattle.cbor.specs.Valid.{word, first_key_after, valid_at, valid_items, valid_entries}
-use Rattle.cbor.proofs.Heads.{head_shape}
+use Rattle.cbor.proofs.Heads.{Sized, head_shape}
 use Rattle.cbor.proofs.Numbers.{bytes_replicate, length_to_bytes}
 use Rattle.laws.specs.Laws.{AtTheLimits}
 use Rattle.cbor.proofs.Order.{before_first, before_later, before_after, before_front}
@@ -33,18 +33,32 @@ digits_before (suc w) a b h l =
           rw e (before_after (to_bytes w (b / 256)) (a % 256 ∷ []) (b % 256 ∷ []) (before_first (a % 256) (b % 256) [] [] (omega arith)))
     ]
 
+-- of two numbers the greater one has no shorter head
+sized_order : (a b s w t x : ℕ) → Sized a s w → Sized b t x → a < b → t ≤ s → s ≡ t
+sized_order a b s w t x z y h g = omega arith
+
+sized_alike : (a b s w t x : ℕ) → Sized a s w → Sized b t x → s ≡ t → a < b → 24 ≤ b
+sized_alike a b s w t x z y e h = omega arith
+
+sized_width : (a b s w t x : ℕ) → Sized a s w → Sized b t x → s ≡ t → w ≡ x
+sized_width a b s w t x z y e = omega arith
+
+sized_before : (m a b s w t x : ℕ) → Sized a s w → Sized b t x → a < b → before ((32 * m + s) ∷ to_bytes w a) ((32 * m + t) ∷ to_bytes x b) ≡ true
+sized_before m a b s w t x z y h = elim (cases_lt s t) [
+  | inl g ↦ before_first (32 * m + s) (32 * m + t) (to_bytes w a) (to_bytes x b) (omega arith)
+  | inr g ↦
+      let e : s ≡ t = sized_order a b s w t x z y h g in
+      let f : w ≡ x = sized_width a b s w t x z y e in
+      let (least, form, lo, hi) = sized_long b t x y (sized_alike a b s w t x z y e h) in
+      before_later (32 * m + s) (32 * m + t) (to_bytes w a) (to_bytes x b) (ap (λ k. 32 * m + k) e) (rw f (digits_before x a b h hi))
+]
+
 pub head_before : (m a b : ℕ) → a < b → b < 18446744073709551616 → before (head m a) (head m b) ≡ true
 head_before m a b h l =
-    let (s, w, p, z) = head_shape m a (omega arith) in
+    let k : a < 18446744073709551616 = omega arith in
+    let (s, w, p, z) = head_shape m a k in
     let (t, x, q, y) = head_shape m b l in
-    rw (p, q) (elim (cases_lt s t) [
-      | inl g ↦ before_first (32 * m + s) (32 * m + t) (to_bytes w a) (to_bytes x b) (omega arith)
-      | inr g ↦
-          let e : s ≡ t = omega arith in
-          let f : w ≡ x = omega arith in
-          let (least, form, lo, hi) = sized_long b t x y (omega arith) in
-          before_later (32 * m + s) (32 * m + t) (to_bytes w a) (to_bytes x b) (ap (λ k. 32 * m + k) e) (rw f (digits_before x a b h hi))
-    ])
+    ap (λ v. before v (head m b)) p ∙ ap (λ v. before ((32 * m + s) ∷ to_bytes w a) v) q ∙ sized_before m a b s w t x z y h
 
 -- ITEMS OF EVERY SIZE
 
