@@ -44,7 +44,7 @@ fn demand_in(number: u64, demand: u64) -> u64
 }
 
 // An item, of which so many more keys have to come after it, so deep.
-#[cycle(walk_walk_entries_walk_items)]
+#[cycle(walking)]
 pub(crate) fn walk(
     bytes: &[u8],
     at: usize,
@@ -74,7 +74,7 @@ pub(crate) fn walk(
 }
 
 // So many items, one after the other.
-#[cycle(walk_walk_entries_walk_items)]
+#[cycle(walking)]
 fn walk_items(
     bytes: &[u8],
     at: usize,
@@ -100,7 +100,7 @@ fn walk_items(
 }
 
 // So many entries, one after the other, each key after the last.
-#[cycle(walk_walk_entries_walk_items)]
+#[cycle(walking)]
 fn walk_entries(
     bytes: &[u8],
     at: usize,

@@ -1,11 +1,11 @@
 -- Items passed over: by the head that stands there, and what is in them.
-use Rattle.std.proofs.Common.{◌≡◌, ℕ, zero, suc, ◌+◌, ◌-◌, ◌*◌, ◌/◌, ◌<◌, ◌≤◌, min, Bool, true, false, ◌&&◌, ltb, ◌⊎◌, List, [], ◌∷◌, ◌++◌, length, get_or, take, drop, Some, None, Option, sym, refl, ap, ◌∙◌, subst, inl, inr, append_assoc, arith, length-append}
+use Rattle.std.proofs.Common.{◌≡◌, ℕ, suc, ◌+◌, ◌-◌, ◌*◌, ◌/◌, ◌<◌, ◌≤◌, min, true, ◌&&◌, ◌⊎◌, List, [], ◌∷◌, ◌++◌, length, get_or, take, drop, Some, None, Option, sym, refl, ap, ◌∙◌, subst, arith, length-append}
 use Rattle.std.proofs.lemmas.List.{append-nil}
-use Rattle.std.proofs.lemmas.Bool.{ltb-true, lt-ltb, and_parts, and_from}
+use Rattle.std.proofs.lemmas.Bool.{ltb-true, and_parts, and_from}
 use Rattle.cbor.specs.Item.{Item, unsigned, negative, byte_string, text_string, array, map, tag, simple, Items, no_item, more_items, Entries, no_entry, more_entries, how_many, how_many_entries}
 use Rattle.cbor.specs.Encoding.{major_number, to_bytes, head, encode, encode_items, encode_entries}
 use Rattle.cbor.specs.Valid.{word, valid_at, valid_items, valid_entries, ItemOf}
-use Rattle.cbor.specs.Prefix.{Any, Stops, StopsAt, StandsAt}
+use Rattle.cbor.specs.Prefix.{Any, StandsAt}
 use Rattle.cbor.specs.Reading.{HeadOf, Stopped}
 use Rattle.cbor.specs.declared.reading.Stop.{Stop}
 use Rattle.cbor.proofs.Heads.{head_shape, head_free}

@@ -1,5 +1,5 @@
 -- What comparing two byte strings tells.
-use Rattle.std.specs.Prelude.{◌≡◌, ℕ, ◌<◌, true, List, [], ◌∷◌, length, get_or, take, drop}
+use Rattle.std.specs.Prelude.{◌≡◌, ℕ, ◌<◌, true, List, [], ◌∷◌, take, drop}
 use Rattle.cbor.specs.Order.{before}
 use Rattle.items.specs.declared.comparing.Comparison.{Comparison}
 use Rattle.items.specs.declared.comparing.Comparison.TheVariants.{Before, Same, After}

@@ -1,9 +1,9 @@
 -- What is told of heads and items that stand at a place.
-use Rattle.std.specs.Prelude.{◌≡◌, ℕ, ◌+◌, ◌-◌, ◌<◌, ◌≤◌, true, List, length, drop, Some, None, Option}
+use Rattle.std.specs.Prelude.{◌≡◌, ℕ, ◌+◌, ◌-◌, ◌<◌, ◌≤◌, true, List, length, Some, None, Option}
 use Rattle.std.specs.Borrow.{Bor}
 use Rattle.cbor.specs.Item.{Item, Items, how_many}
 use Rattle.cbor.specs.Encoding.{major_number, encode, encode_items}
-use Rattle.cbor.specs.Valid.{valid_at, valid_items, ItemOf}
+use Rattle.cbor.specs.Valid.{valid_items, ItemOf}
 use Rattle.cbor.specs.Prefix.{StandsAt}
 use Rattle.cbor.specs.Reading.{HeadOf}
 use Rattle.items.specs.declared.skipping.ItemHead.{ItemHead}

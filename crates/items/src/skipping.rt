@@ -62,7 +62,7 @@ fn skip_bytes(bytes: &[u8], at: usize, size: u64) -> Option<usize>
 }
 
 // Where the valid item ends that stands at a place; without one there, what its heads say or None.
-#[cycle(skip_skip_items)]
+#[cycle(skipping)]
 pub fn skip(bytes: &[u8], at: usize, depth: u8) -> Option<usize>
     ensures { Skips depth bytes.now at result }
 {
@@ -77,7 +77,7 @@ pub fn skip(bytes: &[u8], at: usize, depth: u8) -> Option<usize>
 }
 
 // Where so many of them end that are in an item.
-#[cycle(skip_skip_items)]
+#[cycle(skipping)]
 fn skip_items(bytes: &[u8], at: usize, count: u64, depth: u8) -> Option<usize>
     requires { at ≤ length bytes.now }
     ensures { SkipsItems depth count bytes.now at result }

@@ -203,7 +203,7 @@ fn key_reach(key: Measurement, left: u64) -> usize
     if key.after > left { key.reach } else { 0 }
 }
 
-#[cycle(measure_measure_body_measure_elements_measure_entries_measure_tag)]
+#[cycle(measuring)]
 fn measure_elements(bytes: &[u8], at: usize, count: u64, depth: u8) -> Option<Extent>
     requires { at ≤ length bytes.now }
     ensures { ExtendsIn depth bytes.now at result (walk_many (walk (depth - 1) 0) count (drop at bytes.now)) }
@@ -223,7 +223,7 @@ fn measure_elements(bytes: &[u8], at: usize, count: u64, depth: u8) -> Option<Ex
     Some(Extent { end, reach })
 }
 
-#[cycle(measure_measure_body_measure_elements_measure_entries_measure_tag)]
+#[cycle(measuring)]
 fn measure_entries(bytes: &[u8], at: usize, count: u64, depth: u8) -> Option<Extent>
     requires { at ≤ length bytes.now }
     ensures { ExtendsIn depth bytes.now at result (walk_pairs (walk (depth - 1)) count [] (drop at bytes.now)) }
@@ -245,7 +245,7 @@ fn measure_entries(bytes: &[u8], at: usize, count: u64, depth: u8) -> Option<Ext
     Some(Extent { end, reach })
 }
 
-#[cycle(measure_measure_body_measure_elements_measure_entries_measure_tag)]
+#[cycle(measuring)]
 fn measure_tag(bytes: &[u8], at: usize, number: u64, depth: u8) -> Option<Measurement>
     ensures { BodyMeasured depth bytes.now Tag number at result }
 {
@@ -261,7 +261,7 @@ fn measure_tag(bytes: &[u8], at: usize, number: u64, depth: u8) -> Option<Measur
 }
 
 // What comes after a head, and how many come after the whole item.
-#[cycle(measure_measure_body_measure_elements_measure_entries_measure_tag)]
+#[cycle(measuring)]
 fn measure_body(bytes: &[u8], head: ItemHead, depth: u8) -> Option<Measurement>
     requires { head.next ≤ length bytes.now }
     ensures { BodyMeasured depth bytes.now head.major head.argument head.next result }
@@ -283,7 +283,7 @@ fn measure_body(bytes: &[u8], head: ItemHead, depth: u8) -> Option<Measurement>
 }
 
 // The measurement of the valid item that stands at a place; without one there, what its heads say or None.
-#[cycle(measure_measure_body_measure_elements_measure_entries_measure_tag)]
+#[cycle(measuring)]
 pub fn measure(bytes: &[u8], at: usize, depth: u8) -> Option<Measurement>
     ensures { Measured depth bytes.now at result }
 {

@@ -1,4 +1,4 @@
-use Rattle.std.proofs.Common.{◌≡◌, get_or, sym, ◌∙◌, subst, arith}
+use Rattle.std.proofs.Common.{◌≡◌, subst, arith}
 use Rattle.cbor.specs.Encoding.{major_number}
 use Rattle.cbor.specs.Prefix.{StandsAt}
 use Rattle.cbor.specs.Reading.{HeadOf}

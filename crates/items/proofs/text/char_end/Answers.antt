@@ -1,4 +1,4 @@
-use Rattle.std.proofs.Common.{◌≡◌, sym}
+use Rattle.std.proofs.Common.{sym}
 use Rattle.items.proofs.Texts.{char_none, char_plain, char_tails}
 use Rattle.items.proofs.text.char_end.Goals as goal
 

@@ -1,4 +1,4 @@
-use Rattle.std.proofs.Common.{◌≡◌, ◌≤◌, ◌⊎◌, length, inl, inr, arith}
+use Rattle.std.proofs.Common.{◌≡◌, length, inl, inr, arith}
 use Rattle.std.proofs.lemmas.Bool.{cases_lt}
 use Rattle.items.proofs.Texts.{chars_more, char_wrong, char_cut, chars_whole}
 use Rattle.items.proofs.text.first_wrong.Goals as goal

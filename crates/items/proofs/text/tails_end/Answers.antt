@@ -1,4 +1,4 @@
-use Rattle.std.proofs.Common.{◌≡◌, [], ◌∷◌, Ok, Err, sym, subst, arith}
+use Rattle.std.proofs.Common.{[], ◌∷◌, Ok, Err, sym, subst, arith}
 use Rattle.std.proofs.lemmas.Result.{err_from_is_err_and}
 use Rattle.cbor.specs.Utf8.{tail, second}
 use Rattle.items.specs.Text.{ByteTold, TailsTold}
@@ -8,13 +8,13 @@ use Rattle.items.proofs.text.tails_end.Goals as goal
 
 pub returns-then-first-lt224 : goal.returns-then-first-lt224
 returns-then-first-lt224 c =
-    rw (tails_two c.args.first c.requires.1 c.if-first-lt224.true) (tails_last tail c.args.bytes.now c.args.at c.byte_in.result c.requires.0 c.byte_in.ensures)
+    rw (tails_two c.args.first c.requires.le_first c.if-first-lt224.true) (tails_last tail c.args.bytes.now c.args.at c.byte_in.result c.requires.at_in_bounds c.byte_in.ensures)
 
 pub returns-in_err-third : goal.returns-in_err-third
 returns-in_err-third c =
     let p = err_from_is_err_and c.from_residual.result c.from_residual.ensures.1 in
     let (rs, e) = tails_second c.args.first c.if-first-lt224.false in
-    rw (p.1, p.2, e, sym c.second_of.ensures) (tails_stop _ rs c.args.bytes.now c.args.at c.in_err-third.field-0.0 c.requires.0 c.in_err-third.ensures)
+    rw (p.1, p.2, e, sym c.second_of.ensures) (tails_stop _ rs c.args.bytes.now c.args.at c.in_err-third.field-0.0 c.requires.at_in_bounds c.in_err-third.ensures)
 
 pub returns-then-first-lt240 : goal.returns-then-first-lt240
 returns-then-first-lt240 c =

@@ -1,7 +1,7 @@
 use Rattle.std.proofs.Common.{◌+◌, ◌-◌, ◌*◌}
 use Rattle.prefixes.specs.Walks.{walk}
 use Rattle.reach.proofs.Rows.{ManyLeft, PairsLeft}
-use Rattle.reach.proofs.+measure_measure_body_measure_elements_measure_entries_measure_tag.Given as goal
+use Rattle.reach.proofs.+measuring.Given as goal
 
 abbrev pub decreases-measure : goal.decreases-measure
 decreases-measure l = 3 * l.depth + 2

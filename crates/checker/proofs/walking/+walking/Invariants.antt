@@ -3,7 +3,7 @@ use Rattle.prefixes.specs.Walks.{walk, walk_many}
 use Rattle.checker.specs.declared.Stop.{Stop}
 use Rattle.checker.specs.Ends.{Ends}
 use Rattle.checker.proofs.Entries.{GoesOn}
-use Rattle.checker.proofs.walking.+walk_walk_entries_walk_items.Given as goal
+use Rattle.checker.proofs.walking.+walking.Given as goal
 
 abbrev pub decreases-walk : goal.decreases-walk
 decreases-walk l = 2 * l.depth

@@ -3,7 +3,7 @@ use Rattle.cbor.proofs.Numbers.{bytes_typed}
 use Rattle.prefixes.specs.Walks.{walk}
 use Rattle.reach.proofs.Rows.{many_start, many_more, many_cut, many_end, pairs_start, key_cut, value_cut, pairs_more, pairs_end}
 use Rattle.reach.proofs.Measures.{no_head, no_body, with_body, tag_body, no_content}
-use Rattle.reach.proofs.+measure_measure_body_measure_elements_measure_entries_measure_tag.Goals as goal
+use Rattle.reach.proofs.+measuring.Goals as goal
 
 -- by the head
 

@@ -8,7 +8,7 @@ use Rattle.checker.specs.declared.Stop.TheVariants.{Wrong}
 use Rattle.checker.proofs.Steps.{bytes_ends}
 use Rattle.checker.proofs.Walks.{item_stop, item_bytes, item_text, item_array, item_map, item_tag, item_plain, plain_major, deep_of, many_stop, many_step, many_none}
 use Rattle.checker.proofs.Entries.{key_known, entries_start, within, key_refused, key_misplaced, value_stop, entry_step, entries_none, kept_one, item_not_empty}
-use Rattle.checker.proofs.walking.+walk_walk_entries_walk_items.Goals as goal
+use Rattle.checker.proofs.walking.+walking.Goals as goal
 
 pub walk-returns-in-err-head : goal.walk-returns-in-err-head
 walk-returns-in-err-head t c =
