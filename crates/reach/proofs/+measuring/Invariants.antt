@@ -6,26 +6,26 @@ use Rattle.reach.proofs.+measuring.Given as goal
 abbrev pub decreases-measure : goal.decreases-measure
 decreases-measure l = 3 * l.depth + 2
 
-abbrev pub decreases-measure-body : goal.decreases-measure-body
-decreases-measure-body l = 3 * l.depth + 1
+abbrev pub decreases-measure_body : goal.decreases-measure_body
+decreases-measure_body l = 3 * l.depth + 1
 
-abbrev pub decreases-measure-elements : goal.decreases-measure-elements
-decreases-measure-elements l = 3 * l.depth
+abbrev pub decreases-measure_elements : goal.decreases-measure_elements
+decreases-measure_elements l = 3 * l.depth
 
-abbrev pub decreases-measure-entries : goal.decreases-measure-entries
-decreases-measure-entries l = 3 * l.depth
+abbrev pub decreases-measure_entries : goal.decreases-measure_entries
+decreases-measure_entries l = 3 * l.depth
 
-abbrev pub decreases-measure-tag : goal.decreases-measure-tag
-decreases-measure-tag l = 3 * l.depth
+abbrev pub decreases-measure_tag : goal.decreases-measure_tag
+decreases-measure_tag l = 3 * l.depth
 
-abbrev pub invariant-measure-elements-elements : goal.invariant-measure-elements-elements
-invariant-measure-elements-elements l = ManyLeft (walk (l.depth - 1) 0) l.bytes l.at l.count l.end l.left l.reach
+abbrev pub invariant-measure_elements-elements : goal.invariant-measure_elements-elements
+invariant-measure_elements-elements l = ManyLeft (walk (l.depth - 1) 0) l.bytes l.at l.count l.end l.left l.reach
 
-abbrev pub decreases-measure-elements-elements : goal.decreases-measure-elements-elements
-decreases-measure-elements-elements l = l.left
+abbrev pub decreases-measure_elements-elements : goal.decreases-measure_elements-elements
+decreases-measure_elements-elements l = l.left
 
-abbrev pub invariant-measure-entries-entries : goal.invariant-measure-entries-entries
-invariant-measure-entries-entries l = PairsLeft (walk (l.depth - 1)) l.bytes l.at l.count l.end l.left l.reach
+abbrev pub invariant-measure_entries-entries : goal.invariant-measure_entries-entries
+invariant-measure_entries-entries l = PairsLeft (walk (l.depth - 1)) l.bytes l.at l.count l.end l.left l.reach
 
-abbrev pub decreases-measure-entries-entries : goal.decreases-measure-entries-entries
-decreases-measure-entries-entries l = l.left
+abbrev pub decreases-measure_entries-entries : goal.decreases-measure_entries-entries
+decreases-measure_entries-entries l = l.left

@@ -3,19 +3,19 @@ use Rattle.std.proofs.lemmas.Bool.{lt-ltb, le-ltb}
 use Rattle.prefixes.specs.Words.{joined}
 use Rattle.prefixes.specs.Texts.{top_of_first}
 use Rattle.reach.proofs.Texts.{CharSo, char_start, char_more, char_end, can_rise, cannot_rise}
-use Rattle.reach.proofs.char_reach.Goals.{then-first-first-top, else-first-first-top, then-bytes-place, else-bytes-place}
+use Rattle.reach.proofs.char_reach.Goals.{then-first-first_top, else-first-first_top, then-bytes-place, else-bytes-place}
 use Rattle.reach.proofs.char_reach.Goals as goal
 
 pub loop-place-init : goal.loop-place-init
 loop-place-init c =
     let bs = c.args.bytes.now in
     let at = c.args.at in
-    let e : c.if-first-first-top.reach ≡ cond (ltb (get_or bs at 0) (top_of_first c.args.left)) 1 0 = elim c.if-first-first-top.branch [
-      | then-first-first-top w ↦ w.reach-is ∙ sym (ap (λ b. cond b 1 0) (lt-ltb (get_or bs at 0) (top_of_first c.args.left) (subst (λ n. get_or bs at 0 < n) c.first-top.ensures w.if-first-first-top.true)))
-      | else-first-first-top w ↦ w.reach-is ∙ sym (ap (λ b. cond b 1 0) (le-ltb (get_or bs at 0) (top_of_first c.args.left) (subst (λ n. n ≤ get_or bs at 0) c.first-top.ensures w.if-first-first-top.false)))
+    let e : c.if-first-first_top.reach ≡ cond (ltb (get_or bs at 0) (top_of_first c.args.left)) 1 0 = elim c.if-first-first_top.branch [
+      | then-first-first_top w ↦ w.reach-is ∙ sym (ap (λ b. cond b 1 0) (lt-ltb (get_or bs at 0) (top_of_first c.args.left) (subst (λ n. get_or bs at 0 < n) c.first_top.ensures w.if-first-first_top.true)))
+      | else-first-first_top w ↦ w.reach-is ∙ sym (ap (λ b. cond b 1 0) (le-ltb (get_or bs at 0) (top_of_first c.args.left) (subst (λ n. n ≤ get_or bs at 0) c.first_top.ensures w.if-first-first_top.false)))
     ] in
-    let l : c.if-first-first-top.reach ≤ 1 = elim c.if-first-first-top.branch [ then-first-first-top w ↦ omega (arith, w.reach-is) | else-first-first-top w ↦ omega (arith, w.reach-is) ] in
-    (omega arith, char_start bs at c.args.end c.args.left c.second-top-top.result c.if-first-first-top.reach (omega arith) c.requires.1 c.second-top-top.ensures e)
+    let l : c.if-first-first_top.reach ≤ 1 = elim c.if-first-first_top.branch [ then-first-first_top w ↦ omega (arith, w.reach-is) | else-first-first_top w ↦ omega (arith, w.reach-is) ] in
+    (omega arith, char_start bs at c.args.end c.args.left c.second_top-top.result c.if-first-first_top.reach (omega arith) c.requires.end_value c.second_top-top.ensures e)
 
 pub loop-place-preserved : goal.loop-place-preserved
 loop-place-preserved c =

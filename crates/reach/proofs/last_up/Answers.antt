@@ -7,7 +7,7 @@ bytes-init c = (omega arith, omega arith, up_start c.args.bytes.now c.args.end)
 
 pub returns-then-bytes-place : goal.returns-then-bytes-place
 returns-then-bytes-place c =
-    (up_found c.args.bytes.now c.args.at c.bytes.place c.args.end (omega arith) (omega arith) (omega arith) (omega (arith, c.type-inv.bytes (c.bytes.place - 1), c.if-bytes-place.true)) c.bytes.invariant.2, omega arith)
+    (up_found c.args.bytes.now c.args.at c.bytes.place c.args.end (omega arith) (omega arith) (omega arith) (omega (arith, c.type_inv.bytes (c.bytes.place - 1), c.if-bytes-place.true)) c.bytes.invariant.2, omega arith)
 
 pub bytes-preserved : goal.bytes-preserved
 bytes-preserved c =

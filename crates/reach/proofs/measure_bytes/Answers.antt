@@ -11,4 +11,4 @@ returns-then-size-bytes c = bytes_never c.args.bytes.now c.args.at c.args.size (
 pub returns : goal.returns
 returns c =
     let z : c.args.at + c.args.size - c.args.at ≡ c.args.size = omega arith in
-    ((omega arith, omega arith), subst (λ n. DoneSo c.args.bytes.now c.args.at (c.args.at + c.args.size) n (walk_bytes c.args.size (drop c.args.at c.args.bytes.now))) (sym (c.last-up.ensures.0 ∙ ap (λ n. last_up (take n (drop c.args.at c.args.bytes.now))) z)) (bytes_so c.args.bytes.now c.args.at c.args.size (omega arith)))
+    ((omega arith, omega arith), subst (λ n. DoneSo c.args.bytes.now c.args.at (c.args.at + c.args.size) n (walk_bytes c.args.size (drop c.args.at c.args.bytes.now))) (sym (c.last_up.ensures.0 ∙ ap (λ n. last_up (take n (drop c.args.at c.args.bytes.now))) z)) (bytes_so c.args.bytes.now c.args.at c.args.size (omega arith)))

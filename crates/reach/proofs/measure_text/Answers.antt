@@ -5,14 +5,14 @@ use Rattle.reach.proofs.measure_text.Goals as goal
 pub chars-init : goal.chars-init
 chars-init c = text_start c.args.bytes.now c.args.at c.args.size c.requires
 
-pub returns-in-err-char : goal.returns-in-err-char
-returns-in-err-char c =
-    rw c.from-residual.ensures (text_cut c.args.bytes.now c.args.at c.args.size c.chars.end c.chars.left c.chars.reach (omega arith) c.chars.invariant c.in-err-char.ensures)
+pub returns-in_err-char : goal.returns-in_err-char
+returns-in_err-char c =
+    rw c.from_residual.ensures (text_cut c.args.bytes.now c.args.at c.args.size c.chars.end c.chars.left c.chars.reach (omega arith) c.chars.invariant c.in_err-char.ensures)
 
 pub chars-preserved : goal.chars-preserved
 chars-preserved c =
     text_more c.args.bytes.now c.args.at c.args.size c.chars.end c.chars.left c.chars.reach (omega arith) c.chars.invariant
-    c.in-ok-char.char c.join-reach.result c.in-ok-char.ensures c.join-reach.ensures
+    c.in_ok-char.char c.join-reach.result c.in_ok-char.ensures c.join-reach.ensures
 
 pub returns : goal.returns
 returns c = text_end c.args.bytes.now c.args.at c.args.size c.chars.end c.chars.left c.chars.reach (omega arith) c.chars.invariant
