@@ -1,18 +1,18 @@
 -- Keys and values one after another, at places.
-use Rattle.std.proofs.Common.{◌≡◌, ℕ, zero, suc, ◌+◌, ◌-◌, ◌<◌, ◌≤◌, min, Bool, true, false, cond, ltb, ◌⊎◌, List, [], ◌∷◌, ◌++◌, length, get_or, take, drop, Some, None, Ok, Err, Option, Result, sym, refl, ap, ◌∙◌, subst, inl, inr, append_assoc, arith, take-append-drop}
-use Rattle.std.proofs.lemmas.List.{length-drop, length-take-le, append-nil}
-use Rattle.std.proofs.lemmas.Bool.{lt-ltb, le-ltb, cases_lt, cases_Bool, both_ways, not-true}
+use Rattle.std.proofs.Common.{◌≡◌, ℕ, suc, ◌+◌, ◌-◌, ◌<◌, ◌≤◌, min, Bool, true, false, List, [], ◌∷◌, length, get_or, drop, Some, None, Ok, Err, Option, Result, sym, refl, ap, ◌∙◌, subst, inl, inr, arith}
+use Rattle.std.proofs.lemmas.List.{length-drop}
+use Rattle.std.proofs.lemmas.Bool.{lt-ltb, le-ltb, cases_lt}
 use Rattle.cbor.specs.Encoding.{all_bytes}
 use Rattle.cbor.specs.Order.{before}
 use Rattle.cbor.proofs.Numbers.{bytes_drop}
 use Rattle.cbor.proofs.Order.{before_irreflexive, before_transitive}
-use Rattle.cbor.proofs.Places.{part_length, part_rest}
+use Rattle.cbor.proofs.Places.{part_rest}
 use Rattle.items.specs.declared.comparing.Comparison.{Comparison}
 use Rattle.items.specs.declared.comparing.Comparison.TheVariants.{Before, Same, After}
 use Rattle.items.specs.Comparing.{Compared}
-use Rattle.prefixes.specs.Words.{Apart, Within, Reach, Room, Keyed, joined}
+use Rattle.prefixes.specs.Words.{Reach, Keyed, joined}
 use Rattle.prefixes.specs.Shapes.{ItemAt}
-use Rattle.prefixes.specs.Walks.{Told, done, cut, wrong, on_told, carry, odd_at, settle, next_key, reach_of_key, walk_pairs, walk, Holds, Says}
+use Rattle.prefixes.specs.Walks.{Told, done, wrong, on_told, carry, odd_at, settle, next_key, reach_of_key, walk_pairs, walk, Holds, Says}
 use Rattle.checker.specs.declared.Stop.{Stop}
 use Rattle.checker.specs.declared.Stop.TheVariants.{Cut, Wrong}
 use Rattle.checker.specs.declared.keys.KeySpan.{KeySpan}

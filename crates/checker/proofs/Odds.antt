@@ -1,11 +1,11 @@
 -- Where a key is at odds with the last one, by comparing them.
-use Rattle.std.proofs.Common.{◌≡◌, ℕ, zero, suc, ◌+◌, ◌-◌, ◌<◌, ◌≤◌, Bool, true, false, cond, ltb, ◌⊎◌, List, [], ◌∷◌, ◌++◌, length, take, drop, Some, None, Option, sym, refl, ap, ◌∙◌, subst, inl, inr, arith, length-append}
+use Rattle.std.proofs.Common.{◌≡◌, ℕ, zero, suc, ◌+◌, ◌-◌, ◌<◌, ◌≤◌, false, List, [], ◌∷◌, ◌++◌, length, take, drop, Some, None, Option, sym, refl, ap, ◌∙◌, inl, inr, arith, length-append}
 use Rattle.std.proofs.lemmas.Bool.{lt-ltb, le-ltb, cases_lt, both_ways}
 use Rattle.std.proofs.lemmas.List.{length-take-le, length-drop, take_all, take-append-le}
 use Rattle.std.specs.Option.{SomeIff}
 use Rattle.cbor.specs.Order.{before}
 use Rattle.cbor.specs.Prefix.{PrefixFree}
-use Rattle.items.specs.Comparing.{FirstBefore, SameSoFar, DecidedAt}
+use Rattle.items.specs.Comparing.{FirstBefore, DecidedAt}
 use Rattle.prefixes.specs.Words.{Apart, Word, Up, Reach, Room}
 use Rattle.prefixes.proofs.Order.{apart_before, apart_place}
 use Rattle.prefixes.proofs.Words.{free_meets}

@@ -1,18 +1,18 @@
 -- Heads that are read are those that the walk tells.
-use Rattle.std.proofs.Common.{◌≡◌, ℕ, zero, suc, ◌+◌, ◌-◌, ◌*◌, ◌/◌, ◌%◌, ◌<◌, ◌≤◌, Bool, true, false, ◌&&◌, ◌||◌, ltb, leb, ◌⊎◌, List, [], ◌∷◌, ◌++◌, length, get_or, take, drop, Ok, Err, Result, sym, refl, ap, ◌∙◌, subst, inl, inr, arith, length-append}
+use Rattle.std.proofs.Common.{◌≡◌, ℕ, suc, ◌+◌, ◌-◌, ◌*◌, ◌/◌, ◌%◌, ◌<◌, ◌≤◌, true, false, ◌&&◌, ◌||◌, ltb, leb, ◌⊎◌, List, [], ◌∷◌, ◌++◌, length, get_or, take, drop, Ok, Err, Result, sym, refl, ap, ◌∙◌, subst, inl, inr, arith, length-append}
 use Rattle.items.specs.declared.skipping.ItemHead.{ItemHead}
 use Rattle.checker.specs.declared.Stop.{Stop}
 use Rattle.std.proofs.lemmas.List.{length-drop, drop_all, take_all, append-nil}
-use Rattle.std.proofs.lemmas.Bool.{lt-ltb, le-ltb, lt-leb, ltb-true, leb-true, and_parts, or_cases, cases_lt, cases_eq, both_ways}
+use Rattle.std.proofs.lemmas.Bool.{lt-ltb, le-ltb, ltb-true, leb-true, and_parts, or_cases, cases_lt}
 use Rattle.cbor.specs.declared.Major.{Major}
 use Rattle.cbor.specs.declared.Major.TheVariants.{Unsigned, Negative, Bytes, Text, Array, Map, Tag, Simple}
-use Rattle.cbor.specs.Encoding.{all_bytes, major_number, to_bytes, head}
+use Rattle.cbor.specs.Encoding.{all_bytes, major_number, to_bytes}
 use Rattle.cbor.specs.Prefix.{Begins, Any, PrefixFree, StopsAt, StandsAt}
 use Rattle.cbor.specs.Reading.{HeadOf}
 use Rattle.cbor.proofs.Heads.{Sized, sized_head, head_shape, head_not_empty}
 use Rattle.cbor.proofs.Writes.{one_byte, major_below}
 use Rattle.cbor.proofs.Numbers.{bytes_drop}
-use Rattle.cbor.proofs.Places.{part_rest, part_length, at_first}
+use Rattle.cbor.proofs.Places.{part_rest, at_first}
 use Rattle.cbor.proofs.Words.{free_two}
 use Rattle.prefixes.specs.Words.{Unread}
 use Rattle.prefixes.specs.Shapes.{HeadFits, HeadFor, major_of}

@@ -1,10 +1,10 @@
 -- One word after another, at places.
-use Rattle.std.proofs.Common.{◌≡◌, ℕ, zero, suc, ◌+◌, ◌-◌, ◌<◌, ◌≤◌, Bool, true, false, leb, List, [], ◌∷◌, ◌++◌, length, get_or, take, drop, Ok, Err, Result, sym, refl, ap, ◌∙◌, subst, arith}
+use Rattle.std.proofs.Common.{◌≡◌, ℕ, ◌-◌, ◌<◌, ◌≤◌, List, length, take, drop, Ok, Err, Result, sym, ap, arith}
 use Rattle.std.proofs.lemmas.List.{length-drop, drop-drop}
 use Rattle.std.proofs.lemmas.Bool.{le-leb, lt-leb}
 use Rattle.cbor.proofs.Places.{part_more, part_length}
 use Rattle.prefixes.specs.Words.{last_up}
-use Rattle.prefixes.specs.Walks.{Told, done, cut, wrong, on_told, carry, retold, walk_bytes}
+use Rattle.prefixes.specs.Walks.{Told, done, wrong, on_told, carry, retold, walk_bytes}
 use Rattle.checker.specs.declared.Stop.{Stop}
 use Rattle.checker.specs.declared.Stop.TheVariants.{Cut, Wrong}
 use Rattle.checker.specs.Ends.{Ended, Stops, Ends, BytesTold}

@@ -1,14 +1,13 @@
 -- The verdict on all of the bytes, by what the walk over them tells; what readers tell is what the walk tells.
-use Rattle.std.proofs.Common.{◌≡◌, ℕ, zero, suc, ◌+◌, ◌-◌, ◌<◌, ◌≤◌, Bool, true, false, ◌⊎◌, List, [], ◌∷◌, ◌++◌, length, get_or, take, drop, Some, None, Ok, Err, Result, sym, refl, ap, ◌∙◌, subst, inl, inr, append_assoc, arith, length-append, take-append-drop}
+use Rattle.std.proofs.Common.{◌≡◌, ℕ, suc, ◌+◌, ◌-◌, ◌<◌, ◌≤◌, true, List, [], ◌∷◌, ◌++◌, length, take, drop, Some, None, Ok, Err, Result, sym, refl, ap, ◌∙◌, subst, inl, inr, append_assoc, arith, length-append, take-append-drop}
 use Rattle.std.proofs.lemmas.List.{drop_more, drop_all, length-take-le, take_all, take-take, take_at, take-append-le, append-nil, append_cancel_left, nil_from_length, length-drop, drop-drop}
-use Rattle.std.proofs.lemmas.Bool.{cases_order, cases_lt}
+use Rattle.std.proofs.lemmas.Bool.{cases_order}
 use Rattle.cbor.specs.Encoding.{all_bytes}
-use Rattle.cbor.specs.Prefix.{Begins, Any, PrefixFree}
+use Rattle.cbor.specs.Prefix.{Begins}
 use Rattle.cbor.proofs.Places.{part_length}
-use Rattle.cbor.proofs.Words.{free_two}
 use Rattle.cbor.specs.Utf8.{TextOf}
 use Rattle.items.specs.Text.{FirstWrong}
-use Rattle.prefixes.specs.Words.{Unread, WrongAt, Reach}
+use Rattle.prefixes.specs.Words.{Unread, Reach}
 use Rattle.prefixes.specs.Walks.{Told, done, cut, wrong, Holds, walk_text, walk}
 use Rattle.prefixes.specs.Verdict.{Verdict, whole, short, wrong_at, RightVerdict, check}
 use Rattle.prefixes.proofs.Told.{ReachTold}
@@ -16,7 +15,7 @@ use Rattle.prefixes.proofs.Strings.{text_holds}
 use Rattle.prefixes.proofs.Verdict.{check_is_right}
 use Rattle.checker.specs.declared.Stop.{Stop}
 use Rattle.checker.specs.declared.Stop.TheVariants.{Cut, Wrong}
-use Rattle.checker.specs.Ends.{Ended, Stops, Ends, BytesTold}
+use Rattle.checker.specs.Ends.{Stops, Ends, BytesTold}
 
 -- THE WHOLE
 

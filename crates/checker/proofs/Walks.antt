@@ -1,14 +1,14 @@
 -- Items by their major types, and items one after another, at places.
-use Rattle.std.proofs.Common.{◌≡◌, ℕ, zero, suc, ◌+◌, ◌-◌, ◌<◌, ◌≤◌, Bool, true, false, cond, eqb, ◌⊎◌, List, [], ◌∷◌, ◌++◌, length, take, drop, Ok, Err, Result, sym, refl, ap, ◌∙◌, subst, inl, inr, arith}
+use Rattle.std.proofs.Common.{◌≡◌, ℕ, zero, suc, ◌-◌, ◌<◌, ◌≤◌, cond, eqb, ◌⊎◌, List, [], length, drop, Ok, Result, sym, refl, ◌∙◌, subst, inl, inr, arith}
 use Rattle.std.proofs.lemmas.Bool.{eq-eqb, ne_eqb, cases_eq}
 use Rattle.cbor.specs.declared.Major.{Major}
 use Rattle.cbor.specs.declared.Major.TheVariants.{Unsigned, Negative, Bytes, Text, Array, Map, Tag, Simple}
 use Rattle.cbor.specs.Encoding.{major_number}
 use Rattle.items.specs.declared.skipping.ItemHead.{ItemHead}
 use Rattle.prefixes.specs.Words.{joined, reach_of_head}
-use Rattle.prefixes.specs.Walks.{Told, done, cut, wrong, on_told, carry, walk_head, walk_body, walk_item, walk_bytes, walk_text, walk_many, walk_pairs, walk, after_of}
+use Rattle.prefixes.specs.Walks.{Told, done, cut, on_told, carry, walk_head, walk_body, walk_item, walk_bytes, walk_text, walk_many, walk_pairs, walk, after_of}
 use Rattle.checker.specs.declared.Stop.{Stop}
-use Rattle.checker.specs.Ends.{Ended, Stops, Ends, Headed}
+use Rattle.checker.specs.Ends.{Stops, Ends, Headed}
 use Rattle.checker.proofs.Steps.{then_ends, stop_ends, retold_ends}
 
 abbrev inner : ℕ → ℕ → List ℕ → Told (ℕ × ℕ)

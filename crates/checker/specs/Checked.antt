@@ -1,5 +1,5 @@
 -- What checking tells.
-use Rattle.std.specs.Prelude.{◌≡◌, ℕ, suc, ◌<◌, ◌≤◌, List, length, take, Ok, Err, Result}
+use Rattle.std.specs.Prelude.{ℕ, suc, ◌<◌, ◌≤◌, List, length, take, Ok, Err, Result}
 use Rattle.prefixes.specs.Verdict.{IsItem, IsPrefix}
 use Rattle.checker.specs.declared.Verdict.{Verdict}
 use Rattle.checker.specs.declared.Verdict.TheVariants.{Complete, Prefix, Wrong}

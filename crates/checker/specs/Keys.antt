@@ -1,11 +1,11 @@
 -- The keys of a map at places: the last one, whether the next comes after it, and where it is at odds with it.
-use Rattle.std.specs.Prelude.{◌≡◌, ℕ, suc, ◌+◌, ◌-◌, ◌<◌, ◌≤◌, Bool, true, false, List, [], ◌∷◌, length, drop, Some, None, Option, slice_index, slice_range}
+use Rattle.std.specs.Prelude.{◌≡◌, ℕ, suc, ◌<◌, ◌≤◌, Bool, true, false, List, [], ◌∷◌, length, drop, Some, None, Option, slice_index, slice_range}
 use Rattle.cbor.specs.Order.{before}
 use Rattle.prefixes.specs.Words.{Reach, Room}
 use Rattle.prefixes.specs.Shapes.{ItemAt}
-use Rattle.prefixes.specs.Walks.{Told, done, cut, wrong, odd_at, next_key, walk}
+use Rattle.prefixes.specs.Walks.{Told, odd_at, next_key, walk}
 use Rattle.checker.specs.declared.Stop.{Stop}
-use Rattle.checker.specs.declared.Stop.TheVariants.{Cut, Wrong}
+use Rattle.checker.specs.declared.Stop.TheVariants.{Wrong}
 use Rattle.checker.specs.declared.keys.KeySpan.{KeySpan}
 use Rattle.checker.specs.Ends.{Ended, Stops}
 

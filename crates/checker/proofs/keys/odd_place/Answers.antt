@@ -16,7 +16,7 @@ returns-in-After-2 c =
 pub returns-in-Before-2 : goal.returns-in-Before-2
 returns-in-Before-2 c =
     let e : c.in-Before.index ≡ c.in-Before-2.field-0 = (let p = c.in-Before.is in let q = c.in-Before-2.is in cc) in
-    odd_by_tie c.args.reached.now c.args.key.now c.checked-sub.result (ties_before c.in-Before-2.field-0 c.args.reached.now c.args.key.now (omega arith) c.in-Before-2.ensures.0) c.checked-sub.ensures
+    odd_by_tie c.args.reached.now c.args.key.now c.checked_sub.result (ties_before c.in-Before-2.field-0 c.args.reached.now c.args.key.now (omega arith) c.in-Before-2.ensures.0) c.checked_sub.ensures
 
 pub returns-in-Same : goal.returns-in-Same
-returns-in-Same c = odd_by_tie c.args.reached.now c.args.key.now c.checked-sub-in-Same.result (ties_same c.args.reached.now c.args.key.now c.in-Same.ensures) c.checked-sub-in-Same.ensures
+returns-in-Same c = odd_by_tie c.args.reached.now c.args.key.now c.checked_sub-in-Same.result (ties_same c.args.reached.now c.args.key.now c.in-Same.ensures) c.checked_sub-in-Same.ensures

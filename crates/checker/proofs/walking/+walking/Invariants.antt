@@ -8,24 +8,24 @@ use Rattle.checker.proofs.walking.+walking.Given as goal
 abbrev pub decreases-walk : goal.decreases-walk
 decreases-walk l = 2 * l.depth
 
-abbrev pub decreases-walk-items : goal.decreases-walk-items
-decreases-walk-items l = 2 * l.depth + 1
+abbrev pub decreases-walk_items : goal.decreases-walk_items
+decreases-walk_items l = 2 * l.depth + 1
 
 -- what is left gives the whole
-abbrev pub invariant-walk-items-items : goal.invariant-walk-items-items
-invariant-walk-items-items l =
+abbrev pub invariant-walk_items-items : goal.invariant-walk_items-items
+invariant-walk_items-items l =
     (l.next ≤ length l.bytes) × (2 * l.depth ≤ length l.lent)
     × ((r : Result ℕ Stop) → Ends l.bytes l.next r (walk_many (walk l.depth 0) l.left (drop l.next l.bytes)) → Ends l.bytes l.at r (walk_many (walk l.depth 0) l.count (drop l.at l.bytes)))
 
-abbrev pub decreases-walk-items-items : goal.decreases-walk-items-items
-decreases-walk-items-items l = l.left
+abbrev pub decreases-walk_items-items : goal.decreases-walk_items-items
+decreases-walk_items-items l = l.left
 
-abbrev pub decreases-walk-entries : goal.decreases-walk-entries
-decreases-walk-entries l = 2 * l.depth + 1
+abbrev pub decreases-walk_entries : goal.decreases-walk_entries
+decreases-walk_entries l = 2 * l.depth + 1
 
-abbrev pub invariant-walk-entries-entries : goal.invariant-walk-entries-entries
-invariant-walk-entries-entries l =
-    (l.next ≤ length l.bytes) × (l.left ≤ l.count) × (length l.own_val ≡ 2) × (2 * l.depth ≤ length l.rest) × GoesOn l.bytes l.depth l.own_val l.next l.left l.at l.count
+abbrev pub invariant-walk_entries-entries : goal.invariant-walk_entries-entries
+invariant-walk_entries-entries l =
+    (l.next ≤ length l.bytes) × (l.left ≤ l.count) × (length l.own ≡ 2) × (2 * l.depth ≤ length l.rest) × GoesOn l.bytes l.depth l.own l.next l.left l.at l.count
 
-abbrev pub decreases-walk-entries-entries : goal.decreases-walk-entries-entries
-decreases-walk-entries-entries l = l.left
+abbrev pub decreases-walk_entries-entries : goal.decreases-walk_entries-entries
+decreases-walk_entries-entries l = l.left

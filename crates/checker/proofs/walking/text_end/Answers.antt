@@ -16,4 +16,4 @@ returns c =
     let bs = c.args.bytes.now in
     let at = c.args.at in
     let e : take (length bs - at) (drop at bs) ≡ drop at bs = take_all (length bs - at) (drop at bs) (rw (length-drop at bs) (omega arith)) in
-    text_goes_on bs at c.args.size c.bytes-end.result c.requires (subst (λ q. FirstWrong c.args.size q None) e c.in-default.ensures) c.bytes-end.ensures
+    text_goes_on bs at c.args.size c.bytes_end.result c.requires (subst (λ q. FirstWrong c.args.size q None) e c.in_default.ensures) c.bytes_end.ensures
