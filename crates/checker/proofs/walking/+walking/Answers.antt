@@ -1,4 +1,4 @@
-use Rattle.std.proofs.Common.{◌≡◌, ◌-◌, ◌<◌, length, get_or, take, drop, set, Ok, Err, ◌∙◌, arith, length-set, get_or-set_other, get_or-set_same}
+use Rattle.std.proofs.Common.{rules, ◌≡◌, ◌-◌, ◌<◌, length, get_or, take, drop, set, Ok, Err, ◌∙◌, arith, length-set, get_or-set_other, get_or-set_same}
 use Rattle.std.proofs.lemmas.Result.{err_from_is_err_and}
 use Rattle.cbor.specs.declared.Major.TheVariants.{Array, Map, Tag}
 use Rattle.cbor.proofs.Numbers.{bytes_typed}
@@ -45,12 +45,9 @@ walk_entries-entries-init t c =
     let l : 1 < length own = omega arith in
     (c.requires.at_in_bounds, omega arith, simp length-set (omega arith), omega arith, entries_start c.args.bytes.now c.args.depth (set own 1 0) c.args.at c.args.count (rw get_or-set_same))
 
-pub walk_entries-stop_of-requires : goal.walk_entries-stop_of-requires
-walk_entries-stop_of-requires t c = record { bytes_len_bound = c.requires.bytes_len_bound; at_in_bounds = c.entries.invariant.0 }
-
 pub walk_entries-returns-in-Err : goal.walk_entries-returns-in-Err
 walk_entries-returns-in-Err t c =
-    key_refused c.args.bytes.now c.args.depth c.entries.own c.entries.next c.entries.left c.args.at c.args.count c.last_key-last.result c.last_key-last.ensures c.entries.invariant.4 (omega arith) c.in-Err.stop c.stop_of.result c.in-Err.ensures c.stop_of.ensures
+    key_refused c.args.bytes.now c.args.depth c.entries.own c.entries.next c.entries.left c.args.at c.args.count c.last_key-last.result c.last_key-last.ensures c.entries.invariant.4 (omega arith) c.in-Err.stop _ c.in-Err.ensures (search rules)
 
 pub walk_entries-comes_after-requires : goal.walk_entries-comes_after-requires
 walk_entries-comes_after-requires t c =
@@ -61,7 +58,7 @@ pub walk_entries-returns-then-not-comes_after : goal.walk_entries-returns-then-n
 walk_entries-returns-then-not-comes_after t c =
     let (i, e) = c.in-Ok.ensures in
     let known = key_known c.args.bytes.now c.entries.next c.args.depth (c.entries.left - 1) c.in-Ok.end i (omega arith) (bytes_typed c.args.bytes.now (λ j. omega (arith, c.type_inv.bytes j))) c.requires.bytes_len_bound e in
-    key_misplaced c.args.bytes.now c.args.depth c.entries.own c.entries.next c.entries.left c.args.at c.args.count c.last_key-last.result c.last_key-last.ensures c.entries.invariant.4 (omega arith) c.in-Ok.end i e known c.misplaced_at.result c.if-not-comes_after.ensures c.misplaced_at.ensures
+    key_misplaced c.args.bytes.now c.args.depth c.entries.own c.entries.next c.entries.left c.args.at c.args.count c.last_key-last.result c.last_key-last.ensures c.entries.invariant.4 (omega arith) c.in-Ok.end i e known _ c.if-not-comes_after.ensures (search rules)
 
 pub walk_entries-returns-in_err-next : goal.walk_entries-returns-in_err-next
 walk_entries-returns-in_err-next t c =
