@@ -6,11 +6,11 @@ use Rattle.request.proofs.Places.{check_there}
 use Rattle.request.proofs.Requests.{completable}
 use Rattle.request.proofs.reading.read_check.Goals as goal
 
-pub returns-in-err-item : goal.returns-in-err-item
-returns-in-err-item c =
-    let p = err_from_is_err_and c.from-residual.result c.from-residual.ensures.1 in
-    let s = c.in-err-item.field-0.0 in
-    rw (p.1, p.2) (stop_first requests completable a_string [] c.args.bytes.now c.args.at s c.in-err-item.ensures)
+pub returns-in_err-item : goal.returns-in_err-item
+returns-in_err-item c =
+    let p = err_from_is_err_and c.from_residual.result c.from_residual.ensures.1 in
+    let s = c.in_err-item.field-0.0 in
+    rw (p.1, p.2) (stop_first requests completable a_string [] c.args.bytes.now c.args.at s c.in_err-item.ensures)
 
 pub returns : goal.returns
-returns c = check_there c.args.bytes.now c.args.at c.in-ok-item.item.next c.in-ok-item.item.content c.in-ok-item.ensures
+returns c = check_there c.args.bytes.now c.args.at c.in_ok-item.item.next c.in_ok-item.item.content c.in_ok-item.ensures

@@ -14,6 +14,6 @@ pub returns-in-2 : goal.returns-in-2
 unfolding many
 returns-in-2 c = rw c.in-2.is (refl, refl)
 
-pub returns-in-default : goal.returns-in-default
+pub returns-in_default : goal.returns-in_default
 unfolding many
-returns-in-default c = let z : c.args.opcode ≡ 3 = omega arith in rw z (refl, refl)
+returns-in_default c = let z : c.args.opcode ≡ 3 = omega arith in rw z (refl, refl)

@@ -15,5 +15,5 @@ returns-then-stack-lt-STACK c = record { told = little; back = λ ss w e l. litt
 pub returns : goal.returns
 returns c =
     let lent = Enough (length c.args.stack.now) (length c.args.table.now) in
-    let h = told_from lent c.args.bytes.now c.read-all.new.table c.read-all.result (omega arith, omega arith) c.read-all.ensures in
-    record { told = h; back = reads_back lent c.args.bytes.now c.read-all.new.table c.read-all.result h }
+    let h = told_from lent c.args.bytes.now c.read_all.new.table c.read_all.result (omega arith, omega arith) c.read_all.ensures in
+    record { told = h; back = reads_back lent c.args.bytes.now c.read_all.new.table c.read_all.result h }
