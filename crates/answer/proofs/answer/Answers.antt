@@ -6,9 +6,9 @@ use Rattle.answer.proofs.Tells.{refused}
 use Rattle.answer.proofs.answer.Goals as goal
 
 pub returns-in-Err : goal.returns-in-Err
-returns-in-Err c = (omega arith, inr (c.in-default.ensures, stops_lower (Any IsRequest) c.args.bytes.now c.in-Err.stop.place c.in-Err.stop.least 0 (omega arith) c.in-Err.ensures.right))
+returns-in-Err c = (omega arith, inr (c.in_default.ensures, stops_lower (Any IsRequest) c.args.bytes.now c.in-Err.stop.place c.in-Err.stop.least 0 (omega arith) c.in-Err.ensures.right))
 
 pub returns : goal.returns
 returns c =
     let (a, m, (e, w), l) = c.in-Ok.ensures.right in
-    (omega arith, refused c.args.bytes.now a c.in-Ok.taken.took c.in-Some-first-refusal.refusal l e w c.in-default.ensures (c.in-Some-first-refusal.ensures a m))
+    (omega arith, refused c.args.bytes.now a c.in-Ok.taken.took c.in-Some-first_refusal.refusal l e w c.in_default.ensures (c.in-Some-first_refusal.ensures a m))

@@ -4,15 +4,15 @@ use Rattle.schema.specs.declared.reading.NoRules.TheVariants.{Wrong}
 use Rattle.answer.proofs.Tells.{rules_within}
 use Rattle.answer.proofs.wrong_rules.Goals as goal
 
-pub overflow-add-result : goal.overflow-add-result
-overflow-add-result c =
-    let h = c.head-size.ensures 2 in
+pub overflow_add-result : goal.overflow_add-result
+overflow_add-result c =
+    let h = c.head_size.ensures 2 in
     let l = rules_within c.args.bytes.now c.in-Some.rules.now c.in-Some.ensures.0 in
     omega arith
 
-pub overflow-add-result-in-Wrong : goal.overflow-add-result-in-Wrong
-overflow-add-result-in-Wrong c =
-    let h = c.head-size.ensures 2 in
+pub overflow_add-result-in-Wrong : goal.overflow_add-result-in-Wrong
+overflow_add-result-in-Wrong c =
+    let h = c.head_size.ensures 2 in
     let l = rules_within c.args.bytes.now c.in-Some.rules.now c.in-Some.ensures.0 in
     let (table, told) = c.in-Err.ensures in
     let t : RulesAt c.in-Some.rules.now table (Err (Wrong c.in-Wrong.place)) = subst (λ e. RulesAt c.in-Some.rules.now table (Err e)) c.in-Wrong.is told in
@@ -21,7 +21,7 @@ overflow-add-result-in-Wrong c =
 
 pub returns-in-Wrong : goal.returns-in-Wrong
 returns-in-Wrong c =
-    let h = c.head-size.ensures 2 in
+    let h = c.head_size.ensures 2 in
     let (table, told) = c.in-Err.ensures in
     let t : RulesAt c.in-Some.rules.now table (Err (Wrong c.in-Wrong.place)) = subst (λ e. RulesAt c.in-Some.rules.now table (Err e)) c.in-Wrong.is told in
     (c.in-Some.rules.now, c.in-Some.ensures.0, (c.in-Wrong.place, t, omega arith))
