@@ -12,13 +12,17 @@ use fault::Fault;
 use responder::Responder;
 use std::env;
 use std::fs::File;
+use std::process::ExitCode;
 
-fn main(rt: HostRuntime) -> Result<(), Fault> {
-    let result = run(&rt);
-    if let Err(fault) = &result {
-        let _ = eprintln!(rt; "deckorange: {fault}");
+fn main(rt: HostRuntime) -> ExitCode {
+    // An `Err` that main returns would be printed once more.
+    match run(&rt) {
+        Ok(()) => ExitCode::SUCCESS,
+        Err(fault) => {
+            let _ = eprintln!(rt; "deckorange: {fault}");
+            ExitCode::FAILURE
+        }
     }
-    result
 }
 
 fn run(rt: &HostRuntime) -> Result<(), Fault> {
