@@ -1,5 +1,5 @@
 -- What one argument asks for.
-use Rattle.std.specs.Prelude.{◌≡◌, ℕ, Ok, Err, string_bytes, codes, Result, String, ◌≢◌, slice_index}
+use Rattle.std.specs.Prelude.{◌≡◌, Ok, Err, string_bytes, codes, Result, String, ◌≢◌, slice_index}
 use Rattle.std.specs.declared.alloc.Global.{Global}
 use Rattle.deckorange.specs.declared.command.Command.{Command}
 use Rattle.deckorange.specs.declared.command.Command.TheVariants.{Help, AnswerInput, AnswerFile}
