@@ -1,5 +1,12 @@
-"""Whether bytes are one item, the beginning of some, or from which byte on they begin none: by a checker of its own that keeps, for
-each item that it has gone over, the last place at which it could be larger and how many items come after it."""
+#!/usr/bin/env python3
+"""Prints a table of items for the program `item_vectors`: items at random, whole, cut off and with a byte changed. What stands beside
+comes from a checker of its own that keeps, for each item that it has gone over, the last place at which it could be larger and how many
+items come after it.
+
+  tests/items.py COUNT [SEED]
+"""
+import random
+import sys
 
 ENDLESS = 2 ** 64
 
@@ -124,12 +131,12 @@ def item(data, at, depth, demand):
 
 
 def verdict(data):
-    """The answer to a request to check these bytes, as a line."""
+    """What is told of these bytes."""
     try:
         end = item(data, 0, 32, 0)[0]
     except Stop as stop:
-        return "2" if stop.args[0] is None else f"3 {stop.args[0]}"
-    return "1" if end == len(data) else f"3 {end}"
+        return "prefix" if stop.args[0] is None else f"wrong at {stop.args[0]}"
+    return "complete" if end == len(data) else f"wrong at {end}"
 
 
 def head(major, number):
@@ -159,3 +166,29 @@ def random_item(rng, depth):
     if major == 6:
         return head(6, rng.choice((0, 23, 24, 2 ** 64 - 1, 2 ** 64 - 1))) + random_item(rng, depth - 1)
     return head(7, rng.choice((0, 20, 23, 32, 254, 255)))
+
+
+def case(rng):
+    """An item, cut off or with a byte changed, or any bytes."""
+    if not rng.randrange(8):
+        return rng.randbytes(rng.choice((0, 1, 2, 5, 23, 24, 255, 256, 300)))
+    data = bytearray(random_item(rng, rng.choice((1, 2, 3, 5))))
+    change = rng.randrange(4)
+    if change == 0:
+        del data[rng.randrange(len(data) + 1):]
+    elif change == 1:
+        data[rng.randrange(len(data))] = rng.randrange(256)
+    elif change == 2:
+        data[rng.randrange(len(data))] ^= 1 << rng.randrange(8)
+    return bytes(data)
+
+
+def main():
+    count = int(sys.argv[1])
+    rng = random.Random(int(sys.argv[2]) if len(sys.argv) > 2 else 1)
+    for _ in range(count):
+        data = case(rng)
+        print("check", data.hex(), "=>", verdict(data))
+
+
+main()

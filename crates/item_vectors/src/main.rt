@@ -1,0 +1,98 @@
+// Goes through a table on standard input, and compares what is told of items with what stands beside it.
+//
+// A line is a word, what is asked about in hex digits, the sign =>, and what is told: check, of bytes; item, of bytes that begin with a
+// valid one; text, of an announced length and bytes; order, of two byte strings with a comma between them.
+// What follows a # is a comment.
+
+#![tactic(auto)]
+
+use anyhow::anyhow;
+use checker::{LENT, Verdict, check};
+use items::comparing::{Comparison, compare};
+use items::skipping::item_at;
+use items::text::first_wrong;
+use std::alloc::Global;
+use std::io::{BufRead, BufReader};
+
+fn main(rt: HostRuntime) -> anyhow::Result<()> {
+    let heap = rt.alloc();
+    let mut cases = 0u64;
+    let mut differ = 0u64;
+    for line in BufReader::new(heap, rt.stdin())?.lines(heap) {
+        let line = line?;
+        let case = line.split('#').next().unwrap_or("");
+        if case.trim().is_empty() {
+            continue;
+        }
+        let Some((asked, expected)) = case.split_once("=>") else {
+            return Err(anyhow!("a line without =>"));
+        };
+        let told = told(heap, asked)?;
+        cases = cases.saturating_add(1);
+        if told.as_str() != expected.trim() {
+            differ = differ.saturating_add(1);
+            println!(rt; "{case}: {told}")?;
+        }
+    }
+    println!(rt; "{cases} cases, {differ} told otherwise")?;
+    Ok(())
+}
+
+fn told(heap: Global, asked: &str) -> anyhow::Result<String> {
+    let (word, rest) = asked.trim().split_once(' ').unwrap_or((asked.trim(), ""));
+    match word {
+        "check" => verdict_told(heap, rest),
+        "item" => item_told(heap, rest),
+        "text" => text_told(heap, rest),
+        "order" => order_told(heap, rest),
+        _ => Err(anyhow!("a line that begins with no word")),
+    }
+}
+
+// One item, the beginning of some, or the first wrong byte.
+fn verdict_told(heap: Global, asked: &str) -> anyhow::Result<String> {
+    let bytes = hex::decode(heap, asked.trim())?;
+    let mut lent = [0u64; LENT];
+    match check(bytes.as_slice(), &mut lent) {
+        Ok(Verdict::Complete) => Ok(format!(in heap; "complete")?),
+        Ok(Verdict::Prefix) => Ok(format!(in heap; "prefix")?),
+        Ok(Verdict::Wrong(place)) => Ok(format!(in heap; "wrong at {place}")?),
+        Err(_) => Err(anyhow!("not checked")),
+    }
+}
+
+// Of bytes that begin with a valid item: how many are the item's.
+fn item_told(heap: Global, asked: &str) -> anyhow::Result<String> {
+    let bytes = hex::decode(heap, asked.trim())?;
+    match item_at(bytes.as_slice(), 0) {
+        Some(item) => Ok(format!(in heap; "{} bytes", item.len())?),
+        None => Ok(format!(in heap; "none")?),
+    }
+}
+
+// Of a length and bytes: the first byte with which no text of that length goes on.
+fn text_told(heap: Global, asked: &str) -> anyhow::Result<String> {
+    let (size, digits) = asked.trim().split_once(' ').unwrap_or((asked.trim(), ""));
+    let Ok(size) = size.parse::<u64>() else {
+        return Err(anyhow!("a text without a length"));
+    };
+    let bytes = hex::decode(heap, digits)?;
+    match first_wrong(bytes.as_slice(), size) {
+        Some(place) => Ok(format!(in heap; "wrong at {place}")?),
+        None => Ok(format!(in heap; "goes on")?),
+    }
+}
+
+// Of two byte strings: which comes first, by which index.
+fn order_told(heap: Global, asked: &str) -> anyhow::Result<String> {
+    let Some((left, right)) = asked.split_once(',') else {
+        return Err(anyhow!("no two byte strings"));
+    };
+    let left = hex::decode(heap, left.trim())?;
+    let right = hex::decode(heap, right.trim())?;
+    match compare(left.as_slice(), right.as_slice()) {
+        Comparison::Before(index) => Ok(format!(in heap; "before, by {index}")?),
+        Comparison::Same => Ok(format!(in heap; "same")?),
+        Comparison::After(index) => Ok(format!(in heap; "after, by {index}")?),
+    }
+}
