@@ -4,7 +4,6 @@ use Rattle.std.specs.Prelude.{◌≡◌, ℕ, ◌+◌, ◌<◌, ◌≤◌, false
 use Rattle.cbor.specs.Encoding.{head}
 use Rattle.cbor.specs.Prefix.{Any, Stops}
 use Rattle.schema.specs.Verdict.{Readable, Malformed}
-use Rattle.request.specs.declared.answers.Refusal.{Refusal}
 use Rattle.request.specs.declared.answers.Refusal.TheVariants.{NotARequest, TooLarge, Unsound, Circular, NotOneItem, NotOffered}
 use Rattle.request.specs.declared.answers.Answer.{Answer}
 use Rattle.request.specs.declared.answers.Answer.TheVariants.{Refused, Complete, Prefix, Wrong, Found, NotThere, Fits}

@@ -1,14 +1,14 @@
 -- Words and heads at places of lent bytes.
-use Rattle.std.proofs.Common.{◌≡◌, ℕ, zero, suc, ◌+◌, ◌-◌, ◌*◌, ◌/◌, ◌%◌, ◌<◌, ◌≤◌, Bool, true, false, List, [], ◌∷◌, ◌++◌, length, get_or, take, drop, Ok, Err, sym, refl, ap, ◌∙◌, subst, append_assoc, arith, length-append, take-append-drop, take-add}
-use Rattle.std.proofs.lemmas.List.{drop_more, drop_all, length-drop, length-take-le, drop-drop, take-take, take_at, drop_at}
+use Rattle.std.proofs.Common.{◌≡◌, ℕ, suc, ◌+◌, ◌-◌, ◌*◌, ◌/◌, ◌%◌, ◌<◌, ◌≤◌, true, List, [], ◌∷◌, ◌++◌, length, get_or, take, drop, sym, refl, ap, ◌∙◌, subst, arith, length-append, take-append-drop, take-add}
+use Rattle.std.proofs.lemmas.List.{drop_more, length-drop, length-take-le, drop-drop, take-take, take_at, drop_at}
 use Rattle.std.proofs.lemmas.Bool.{lt-ltb}
 use Rattle.cbor.specs.declared.reading.Form.{Form}
-use Rattle.cbor.specs.Encoding.{all_bytes, of_bytes, head}
+use Rattle.cbor.specs.Encoding.{all_bytes, of_bytes}
 use Rattle.cbor.specs.Prefix.{Any, PrefixFree, Then, Stops, StopsAt, StandsAt}
-use Rattle.cbor.specs.Reading.{HeadOf, IsForm, HeadAt}
+use Rattle.cbor.specs.Reading.{HeadOf, IsForm}
 use Rattle.cbor.proofs.Numbers.{bytes_take, bytes_drop}
 use Rattle.cbor.proofs.Words.{stops_first, stops_later, stops_lower}
-use Rattle.cbor.proofs.Heads.{none_first, sized_head, long_is, long_cut, long_low}
+use Rattle.cbor.proofs.Heads.{none_first, long_is, long_cut, long_low}
 
 pub part_rest : (bs : List ℕ) (at mid : ℕ) → at ≤ mid → drop at bs ≡ take (mid - at) (drop at bs) ++ drop mid bs
 part_rest bs at mid h =

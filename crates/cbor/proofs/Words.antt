@@ -1,7 +1,7 @@
 -- One word after another, and where bytes cease to begin one.
-use Rattle.std.proofs.Common.{◌≡◌, ℕ, zero, suc, ◌+◌, ◌-◌, ◌<◌, ◌≤◌, ◌⊎◌, List, [], ◌∷◌, ◌++◌, length, take, drop, sym, refl, ap, ◌∙◌, subst, inl, inr, append_assoc, arith, length-append, take-append-drop, take-add}
-use Rattle.std.proofs.lemmas.List.{append-nil, length-drop, length-take-le, take_all, take-append-le, drop-drop, take_at, drop_at}
-use Rattle.cbor.specs.Prefix.{Begins, Any, PrefixFree, Then, Stops, StopsAt, StandsAt}
+use Rattle.std.proofs.Common.{◌≡◌, ℕ, suc, ◌+◌, ◌<◌, ◌≤◌, ◌⊎◌, List, [], ◌∷◌, ◌++◌, length, take, drop, sym, refl, ap, ◌∙◌, subst, inl, inr, append_assoc, arith, length-append, take-append-drop, take-add}
+use Rattle.std.proofs.lemmas.List.{append-nil, take_at, drop_at}
+use Rattle.cbor.specs.Prefix.{Any, PrefixFree, Then, Stops}
 
 -- two beginnings of one string: one begins with the other
 pub two_fronts : (u v r s : List ℕ) → u ++ r ≡ v ++ s → ((e : List ℕ) × (v ≡ u ++ e) × (r ≡ e ++ s)) ⊎ ((e : List ℕ) × (u ≡ v ++ e) × (s ≡ e ++ r))

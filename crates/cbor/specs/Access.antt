@@ -1,5 +1,5 @@
 -- Going into an item.
-use Rattle.std.specs.Prelude.{Bool, true, false, cond, Some, None, Option}
+use Rattle.std.specs.Prelude.{cond, Some, None, Option}
 use Rattle.cbor.specs.Item.{Item, Entries, no_entry, more_entries}
 use Rattle.cbor.specs.Encoding.{encode}
 use Rattle.cbor.specs.Order.{same}

@@ -1,5 +1,5 @@
 -- Sets of byte strings, called words: what begins one, one after the other, and where bytes cease to begin one.
-use Rattle.std.specs.Prelude.{◌≡◌, ℕ, suc, ◌-◌, ◌<◌, ◌≤◌, List, [], ◌∷◌, ◌++◌, length, take, drop, ◌≢◌}
+use Rattle.std.specs.Prelude.{◌≡◌, ℕ, suc, ◌-◌, ◌<◌, ◌≤◌, List, [], ◌++◌, length, take, drop, ◌≢◌}
 
 -- bytes that begin a word
 abbrev pub Begins : (List ℕ → Type 0) → List ℕ → Type 0

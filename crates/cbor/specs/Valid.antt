@@ -1,6 +1,6 @@
 -- Items that can be encoded (RFC 8949, sections 3 and 5.3.1): arguments of eight bytes, texts in UTF-8, simple values that there are, keys each once
 -- and in the order of their encodings (section 4.2.1); and not nested deeper than a limit.
-use Rattle.std.specs.Prelude.{◌≡◌, ℕ, ◌-◌, Bool, true, false, ◌&&◌, ◌||◌, List, length, nat_le, nat_lt}
+use Rattle.std.specs.Prelude.{◌≡◌, ℕ, ◌-◌, Bool, true, ◌&&◌, ◌||◌, List, length, nat_le, nat_lt}
 use Rattle.cbor.specs.Item.{Item, unsigned, negative, byte_string, text_string, array, map, tag, simple, Items, no_item, more_items, Entries, no_entry, more_entries, how_many, how_many_entries}
 use Rattle.cbor.specs.Encoding.{all_bytes, encode}
 use Rattle.cbor.specs.Order.{before}

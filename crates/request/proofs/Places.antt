@@ -1,22 +1,20 @@
 -- Steps, paths and requests at places of lent bytes.
-use Rattle.std.proofs.Common.{◌≡◌, ℕ, zero, suc, ◌+◌, ◌-◌, ◌<◌, ◌≤◌, List, [], ◌∷◌, ◌++◌, length, take, drop, Ok, Err, Result, sym, refl, ap, ◌∙◌, subst, append_assoc, arith, length-append, take-append-drop, Bor}
+use Rattle.std.proofs.Common.{◌≡◌, ℕ, zero, suc, ◌-◌, ◌<◌, ◌≤◌, List, [], ◌∷◌, ◌++◌, length, take, drop, Ok, Err, Result, sym, refl, ap, ◌∙◌, subst, arith, length-append, take-append-drop, Bor}
 use Rattle.cbor.specs.declared.reading.Stop.{Stop}
-use Rattle.cbor.specs.Prefix.{Any, Stops, StandsAt}
+use Rattle.cbor.specs.Prefix.{Any, Stops}
 use Rattle.cbor.specs.Reading.{Stopped}
 use Rattle.cbor.proofs.Places.{part_length}
 use Rattle.std.proofs.lemmas.List.{take_at}
-use Rattle.sequence.specs.Token.{Token, num, str, token_bytes, spell, Shape, opcode, number, string, Word, TokenOf}
-use Rattle.sequence.specs.Grammar.{next, Takes, Completes}
+use Rattle.sequence.specs.Token.{Token, num, str, spell, opcode, number, string, TokenOf}
+use Rattle.sequence.specs.Grammar.{next, Completes}
 use Rattle.sequence.specs.Reading.{TokenAt, SpelledAt, PendingStops}
 use Rattle.sequence.proofs.Grammars.{spelled_one, spelled_append, spelled_two, stop_first, stop_later, stop_after, none_stands, same_token}
-use Rattle.request.specs.declared.reading.Path.{Path}
-use Rattle.request.specs.declared.reading.Request.{Request}
 use Rattle.request.specs.declared.reading.Request.TheVariants.{Check, Find, Fit}
 use Rattle.request.specs.declared.reading.Taken.{Taken}
-use Rattle.request.specs.Asked.{Step, index, key, content, Asked, check, find, fit, step_tokens, path_tokens, tokens, write, WritableStep, WritablePath, Writable, IsRequest}
-use Rattle.request.specs.Grammar.{Sort, a_request, a_path, a_step, a_number, a_string, many, shape, after_request, requests}
-use Rattle.request.specs.Reading.{Means, PathAt, RestAt, RequestAt, IsRead, ReadsBack, RulesThere}
-use Rattle.request.proofs.Requests.{completable, step_takes, path_takes, request_takes, stops_request, one_way}
+use Rattle.request.specs.Asked.{Step, Asked, check, find, fit, step_tokens, path_tokens, write, WritableStep, WritablePath}
+use Rattle.request.specs.Grammar.{Sort, a_request, a_path, a_step, a_string, many, shape, after_request, requests}
+use Rattle.request.specs.Reading.{Means, PathAt, RestAt, RequestAt, ReadsBack, RulesThere}
+use Rattle.request.proofs.Requests.{completable, step_takes, path_takes, stops_request, one_way}
 
 -- PATHS
 

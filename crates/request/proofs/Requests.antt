@@ -1,11 +1,10 @@
 -- Requests are what completes a pending request.
-use Rattle.std.proofs.Common.{◌≡◌, ℕ, zero, suc, ◌+◌, ◌-◌, ◌*◌, ◌<◌, ◌≤◌, Bool, true, false, ◌⊎◌, List, [], ◌∷◌, ◌++◌, length, take, drop, sym, refl, ap, ◌∙◌, subst, inl, inr, append_assoc, arith, length-append}
-use Rattle.std.proofs.lemmas.List.{append-nil}
+use Rattle.std.proofs.Common.{◌≡◌, ℕ, zero, suc, ◌≤◌, true, List, [], ◌∷◌, ◌++◌, length, sym, refl, ap, ◌∙◌, subst, append_assoc, arith}
 use Rattle.cbor.specs.Encoding.{all_bytes}
 use Rattle.cbor.specs.Prefix.{Any, Stops}
 use Rattle.cbor.proofs.Words.{free_two, stops_same}
-use Rattle.sequence.specs.Token.{Token, num, str, spell, Word, ByteString, Suits}
-use Rattle.sequence.specs.Grammar.{next, Takes, Completes, Completable}
+use Rattle.sequence.specs.Token.{Token, num, str, spell, Word, ByteString}
+use Rattle.sequence.specs.Grammar.{Takes, Completes, Completable}
 use Rattle.sequence.proofs.Grammars.{takes_append, completes_free, spell_bytes}
 use Rattle.request.specs.Asked.{Step, index, key, content, Asked, check, find, fit, step_tokens, path_tokens, tokens, write, WritableStep, WritablePath, Writable, IsRequest}
 use Rattle.request.specs.Grammar.{Sort, a_request, a_path, a_step, a_number, a_string, many, requests}

@@ -1,5 +1,5 @@
 -- Requests written, part by part.
-use Rattle.std.proofs.Common.{◌≡◌, ℕ, ◌+◌, ◌<◌, ◌≤◌, List, [], ◌∷◌, ◌++◌, length, Some, None, Option, sym, refl, ap, ◌∙◌, subst, inl, inr, append_assoc, arith, length-append, Bor}
+use Rattle.std.proofs.Common.{◌≡◌, ℕ, ◌+◌, ◌<◌, ◌≤◌, List, [], ◌∷◌, ◌++◌, length, Some, None, Option, sym, ap, ◌∙◌, subst, inl, inr, append_assoc, arith, length-append, Bor}
 use Rattle.std.specs.Option.{SomeIff}
 use Rattle.std.proofs.lemmas.List.{append-nil}
 use Rattle.std.proofs.lemmas.Bool.{cases_lt}
@@ -10,7 +10,7 @@ use Rattle.sequence.specs.Writing.{SizeOf}
 use Rattle.sequence.proofs.Grammars.{spell_append}
 use Rattle.request.specs.declared.reading.Path.{Path}
 use Rattle.request.specs.declared.reading.Request.TheVariants.{Find}
-use Rattle.request.specs.Asked.{Asked, find, path_tokens, write}
+use Rattle.request.specs.Asked.{Asked, path_tokens, write}
 use Rattle.request.specs.Reading.{Means}
 use Rattle.request.specs.Writing.{find_bytes, request_bytes}
 

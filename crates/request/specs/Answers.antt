@@ -1,5 +1,5 @@
 -- Answers: the number and the values of each, and the line that says them.
-use Rattle.std.specs.Prelude.{ℕ, Bool, true, false, cond, List, [], ◌∷◌, ◌++◌, decimal}
+use Rattle.std.specs.Prelude.{ℕ, cond, List, [], ◌∷◌, ◌++◌, decimal}
 use Rattle.request.specs.declared.answers.Refusal.{Refusal}
 use Rattle.request.specs.declared.answers.Refusal.TheVariants.{NotARequest, TooLarge, Unsound, Circular, NotOneItem, NotOffered}
 use Rattle.request.specs.declared.answers.Answer.{Answer}

@@ -1,17 +1,16 @@
 -- The rows of the table.
-use Rattle.std.proofs.Common.{◌≡◌, ℕ, zero, suc, ◌+◌, ◌-◌, ◌*◌, ◌<◌, ◌≤◌, min, ◌⊎◌, List, [], ◌∷◌, ◌++◌, length, get_or, take, drop, set, sym, refl, ap, ◌∙◌, subst, inl, inr, append_assoc, add-one, arith, length-append, length-drop, length-set, drop_of_length-le, Bor}
+use Rattle.std.proofs.Common.{◌≡◌, ℕ, zero, suc, ◌+◌, ◌-◌, ◌*◌, ◌<◌, ◌≤◌, min, ◌⊎◌, List, [], ◌∷◌, ◌++◌, length, get_or, take, drop, set, sym, refl, ap, ◌∙◌, subst, inl, inr, append_assoc, add-one, arith, length-drop, length-set, drop_of_length-le, Bor}
 use Rattle.std.proofs.lemmas.Bool.{cases_lt}
 use Rattle.std.proofs.lemmas.List.{get_or-set_same, get_or-set_other, append-nil, take_all}
 use Rattle.cbor.specs.Encoding.{head}
 use Rattle.cbor.proofs.Places.{part_length, part_split}
-use Rattle.sequence.specs.Token.{Token, num, str, token_bytes, spell}
+use Rattle.sequence.specs.Token.{num, str, token_bytes, spell}
 use Rattle.sequence.specs.Reading.{SpelledAt}
 use Rattle.schema.specs.declared.nodes.Node.{Node}
 use Rattle.schema.specs.declared.table.Row.{Row}
 use Rattle.schema.specs.declared.entries.Entry.{Entry}
 use Rattle.schema.specs.declared.entries.Form.{Form}
 use Rattle.schema.specs.declared.entries.Form.TheVariants.{String}
-use Rattle.schema.specs.Nodes.{own_tokens}
 use Rattle.schema.specs.Entries.{form_tokens, EntryOf}
 use Rattle.schema.specs.Table.{row_says, row_at, rows, RowOf, RowWritten}
 

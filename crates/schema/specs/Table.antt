@@ -1,5 +1,5 @@
 -- The table of rules: a row of numbers for each node, in the order of their bytes, each parent before its children.
-use Rattle.std.specs.Prelude.{◌≡◌, ℕ, zero, suc, ◌+◌, ◌-◌, ◌*◌, ◌<◌, ◌⊎◌, List, [], ◌∷◌, ◌++◌, length, take, drop, Some, None, Option, ◌≢◌, slice_index}
+use Rattle.std.specs.Prelude.{◌≡◌, ℕ, zero, suc, ◌+◌, ◌*◌, ◌<◌, ◌⊎◌, List, [], ◌∷◌, ◌++◌, length, take, drop, Some, None, Option, ◌≢◌, slice_index}
 use Rattle.sequence.specs.Token.{Token, num, str}
 use Rattle.sequence.specs.Reading.{SpelledAt}
 use Rattle.schema.specs.declared.nodes.Node.{Node}

@@ -1,8 +1,8 @@
 -- What reading rules tells.
-use Rattle.std.specs.Prelude.{◌≡◌, ℕ, suc, ◌+◌, ◌*◌, ◌<◌, ◌≤◌, ◌⊎◌, List, [], ◌∷◌, ◌++◌, length, take, Ok, Err, Result}
-use Rattle.cbor.specs.Prefix.{Begins, Any, Stops}
+use Rattle.std.specs.Prelude.{◌≡◌, ℕ, suc, ◌+◌, ◌*◌, ◌<◌, ◌≤◌, ◌⊎◌, List, [], ◌∷◌, length, take, Ok, Err, Result}
+use Rattle.cbor.specs.Prefix.{Begins, Any}
 use Rattle.sequence.specs.Token.{Token, num}
-use Rattle.sequence.specs.Grammar.{Takes, Completes}
+use Rattle.sequence.specs.Grammar.{Takes}
 use Rattle.sequence.specs.Reading.{SpelledAt}
 use Rattle.schema.specs.declared.reading.Progress.{Progress}
 use Rattle.schema.specs.declared.reading.NoRules.{NoRules}

@@ -1,14 +1,14 @@
 -- Tokens one after the other, by a grammar.
-use Rattle.std.proofs.Common.{◌≡◌, ℕ, ◌+◌, ◌-◌, ◌<◌, ◌≤◌, true, ◌⊎◌, List, [], ◌∷◌, ◌++◌, length, take, drop, sym, refl, ap, ◌∙◌, subst, inl, inr, append_assoc, arith, length-append}
-use Rattle.std.proofs.lemmas.List.{append-nil, take-append-le, drop-append-le}
+use Rattle.std.proofs.Common.{◌≡◌, ℕ, ◌+◌, ◌-◌, ◌≤◌, true, ◌⊎◌, List, [], ◌∷◌, ◌++◌, length, drop, sym, refl, ap, ◌∙◌, subst, inl, inr, append_assoc, arith}
+use Rattle.std.proofs.lemmas.List.{append-nil}
 use Rattle.cbor.specs.Encoding.{all_bytes}
 use Rattle.cbor.specs.declared.reading.Stop.{Stop}
-use Rattle.cbor.specs.Prefix.{Any, PrefixFree, Then, Stops, StopsAt, StandsAt}
+use Rattle.cbor.specs.Prefix.{Any, PrefixFree, Then, StopsAt, StandsAt}
 use Rattle.cbor.specs.Reading.{Stopped}
 use Rattle.cbor.proofs.Numbers.{bytes_append}
 use Rattle.cbor.proofs.Words.{free_two, stops_same}
 use Rattle.cbor.proofs.Places.{part_rest, part_join, part_split, part_length, stops_at_first, stops_at_later}
-use Rattle.sequence.specs.Token.{Token, num, str, token_bytes, spell, Shape, Suits, TokenOf}
+use Rattle.sequence.specs.Token.{Token, token_bytes, spell, Shape, Suits, TokenOf}
 use Rattle.sequence.specs.Grammar.{Grammar, next, Takes, Completes, Completable}
 use Rattle.sequence.specs.Reading.{TokenAt, SpelledAt, PendingStops}
 use Rattle.sequence.proofs.Tokens.{token_free, token_bytes_bytes}

@@ -1,11 +1,11 @@
 -- One token: none begins with another, and where bytes cease to begin one.
-use Rattle.std.proofs.Common.{◌≡◌, ℕ, zero, suc, ◌+◌, ◌-◌, ◌*◌, ◌<◌, ◌≤◌, Bool, true, false, ◌⊎◌, List, [], ◌∷◌, ◌++◌, length, get_or, take, drop, replicate, Ok, Err, Result, sym, refl, ap, ◌∙◌, subst, inl, inr, append_assoc, arith, length-append}
+use Rattle.std.proofs.Common.{◌≡◌, ℕ, suc, ◌+◌, ◌-◌, ◌<◌, ◌≤◌, true, List, [], ◌∷◌, ◌++◌, length, get_or, take, drop, replicate, Ok, Err, Result, sym, refl, ap, ◌∙◌, subst, append_assoc, arith, length-append}
 use Rattle.std.proofs.lemmas.Bool.{lt-ltb}
-use Rattle.std.proofs.lemmas.List.{append-nil, length-drop, length-take-le, nil_from_length, take_all, length-replicate}
+use Rattle.std.proofs.lemmas.List.{append-nil, length-drop, nil_from_length, take_all, length-replicate}
 use Rattle.cbor.specs.declared.reading.Head.{Head}
 use Rattle.cbor.specs.declared.reading.Stop.{Stop}
 use Rattle.cbor.specs.Encoding.{all_bytes, head}
-use Rattle.cbor.specs.Prefix.{Begins, Any, PrefixFree, Then, Stops, StopsAt, StandsAt}
+use Rattle.cbor.specs.Prefix.{Any, PrefixFree, Then, Stops, StopsAt, StandsAt}
 use Rattle.cbor.specs.Reading.{HeadOf, HeadAt}
 use Rattle.cbor.proofs.Numbers.{bytes_append, bytes_take, bytes_drop, bytes_replicate}
 use Rattle.cbor.proofs.Words.{free_two, stops_same, stops_lower}

@@ -1,6 +1,6 @@
-use Rattle.std.proofs.Common.{◌≡◌, ◌+◌, ◌*◌, ◌/◌, ◌%◌, ◌<◌, ◌≤◌, length, get_or, take, drop, sym, refl, ap, ◌∙◌, subst, arith}
+use Rattle.std.proofs.Common.{◌+◌, ◌%◌, ◌<◌, ◌≤◌, get_or, sym, subst, arith}
 use Rattle.std.proofs.lemmas.Nat.{and_mask}
-use Rattle.cbor.specs.Encoding.{major_number, of_bytes}
+use Rattle.cbor.specs.Encoding.{major_number}
 use Rattle.cbor.specs.Prefix.{StandsAt}
 use Rattle.cbor.specs.Reading.{HeadOf, IsForm}
 use Rattle.cbor.proofs.Numbers.{bytes_typed}

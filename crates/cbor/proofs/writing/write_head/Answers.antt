@@ -1,4 +1,4 @@
-use Rattle.std.proofs.Common.{◌≡◌, ◌-◌, take, sym, refl, ap, ◌∙◌, subst, arith}
+use Rattle.std.proofs.Common.{◌≡◌, ◌-◌, take, ap, ◌∙◌, subst, arith}
 use Rattle.cbor.specs.Writing.{Writes}
 use Rattle.cbor.proofs.writing.write_head.Goals as goal
 

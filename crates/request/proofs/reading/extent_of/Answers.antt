@@ -1,4 +1,4 @@
-use Rattle.std.proofs.Common.{◌≡◌, ◌-◌, length, take, sym, ap, ◌∙◌, subst, arith}
+use Rattle.std.proofs.Common.{◌≡◌, ◌-◌, length, take, sym, ap, ◌∙◌, arith}
 use Rattle.cbor.proofs.Places.{part_length}
 use Rattle.request.specs.Asked.{write}
 use Rattle.request.proofs.Places.{request_some}

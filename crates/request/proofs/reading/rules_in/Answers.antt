@@ -1,4 +1,4 @@
-use Rattle.std.proofs.Common.{◌≡◌, subst}
+use Rattle.std.proofs.Common.{subst}
 use Rattle.sequence.specs.Token.{num, opcode}
 use Rattle.sequence.specs.Reading.{TokenAt}
 use Rattle.request.proofs.Places.{none_without_opcode, none_by_another, none_without_string, rules_there}

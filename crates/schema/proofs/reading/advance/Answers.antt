@@ -1,4 +1,4 @@
-use Rattle.std.proofs.Common.{◌≡◌, ◌+◌, ◌-◌, ◌<◌, ◌≤◌, ◌∷◌, sym, refl, ap, ◌∙◌, subst, arith}
+use Rattle.std.proofs.Common.{◌≡◌, ◌+◌, ◌-◌, ◌∷◌, subst, arith}
 use Rattle.schema.specs.Nodes.{sort_of}
 use Rattle.schema.specs.Stacks.{pending}
 use Rattle.schema.proofs.Stacks.{emptied}

@@ -1,4 +1,4 @@
-use Rattle.std.proofs.Common.{◌++◌, ap, ◌∙◌, arith}
+use Rattle.std.proofs.Common.{arith}
 use Rattle.schema.specs.Stacks.{pending}
 use Rattle.schema.proofs.Progresses.{no_number, begun, trailing, whole}
 use Rattle.schema.proofs.reading.read_all.Goals as goal

@@ -1,4 +1,4 @@
-use Rattle.std.proofs.Common.{length, sym, refl, ap, ◌∙◌, subst, arith, length-append}
+use Rattle.std.proofs.Common.{length, sym, ap, subst, arith, length-append}
 use Rattle.cbor.specs.Encoding.{head}
 use Rattle.cbor.specs.Writing.{Writes}
 use Rattle.cbor.proofs.Writes.{writes_then}

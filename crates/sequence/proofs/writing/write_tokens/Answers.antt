@@ -1,4 +1,4 @@
-use Rattle.std.proofs.Common.{◌≡◌, ◌+◌, ◌≤◌, ◌++◌, length, get_or, take, Some, sym, refl, ap, ◌∙◌, subst, arith}
+use Rattle.std.proofs.Common.{get_or, take, Some, sym, subst, arith}
 use Rattle.cbor.specs.Writing.{Writes}
 use Rattle.cbor.proofs.Writes.{writes_then, room_more}
 use Rattle.sequence.specs.declared.writing.Token.TheVariants.{Number}
