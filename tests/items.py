@@ -191,4 +191,5 @@ def main():
         print("check", data.hex(), "=>", verdict(data))
 
 
-main()
+if __name__ == "__main__":
+    main()
