@@ -7,7 +7,6 @@ with a byte changed. The answers come from a reader of its own, byte by byte, th
 import random
 import sys
 
-import items
 import rules
 from rules import head, string
 
@@ -29,26 +28,11 @@ def length(rng):
     return rng.choice((0, 1, 2, 5, 23, 24, 255, 256, 300))
 
 
-def item_to_check(rng):
-    """An item, cut off or with a byte changed, or any bytes."""
-    if not rng.randrange(8):
-        return rng.randbytes(length(rng))
-    data = bytearray(items.random_item(rng, rng.choice((1, 2, 3, 5))))
-    change = rng.randrange(4)
-    if change == 0:
-        del data[rng.randrange(len(data) + 1):]
-    elif change == 1:
-        data[rng.randrange(len(data))] = rng.randrange(256)
-    elif change == 2:
-        data[rng.randrange(len(data))] ^= 1 << rng.randrange(8)
-    return bytes(data)
-
-
 def request(rng):
     item = string(rng.randbytes(length(rng)))
     kind = rng.randrange(3)
     if kind == 0:
-        return head(0, 0) + string(item_to_check(rng))
+        return head(0, 0) + item
     if kind == 2:
         written = bytearray(rules.rules(rng))
         if rng.randrange(2):
@@ -107,17 +91,6 @@ def place(data):
     return None
 
 
-def answer(data):
-    """The line for a request that stands there: to check is offered, and nothing else."""
-    if data[0] != 0:
-        return "0 6 0"
-    low = data[1] & 31
-    width = 0 if low < 24 else 1 << (low - 24)
-    size = int.from_bytes(data[2 : 2 + width], "big") if width else low
-    told = items.verdict(bytes(data[2 + width : 2 + width + size]))
-    return {"complete": "1", "prefix": "2"}.get(told) or "3 " + told.split()[-1]
-
-
 def main():
     count = int(sys.argv[1])
     rng = random.Random(int(sys.argv[2]) if len(sys.argv) > 2 else 1)
@@ -131,7 +104,7 @@ def main():
         elif change == 2:
             data += rng.randbytes(3)
         found = place(data)
-        print(data.hex(), "=>", answer(data) if found is None else f"0 1 {found}")
+        print(data.hex(), "=>", "0 6 0" if found is None else f"0 1 {found}")
 
 
 main()

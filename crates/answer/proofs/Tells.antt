@@ -1,9 +1,8 @@
--- The refusal of a request is the right answer, and so is what is told of one that is not refused.
-use Rattle.std.proofs.Common.{◌≡◌, ℕ, ◌+◌, ◌≤◌, ◌⊎◌, List, [], ◌∷◌, ◌++◌, length, take, drop, Some, None, Option, sym, refl, ap, ◌∙◌, subst, inl, inr, append_assoc, arith, length-append, take-append-drop}
+-- The refusal of a request is the right answer.
+use Rattle.std.proofs.Common.{◌≡◌, ℕ, ◌+◌, ◌≤◌, List, [], ◌∷◌, ◌++◌, length, take, drop, Some, sym, refl, ap, ◌∙◌, inl, inr, append_assoc, arith, length-append, take-append-drop}
 use Rattle.request.specs.declared.answers.Refusal.{Refusal}
 use Rattle.request.specs.declared.answers.Refusal.TheVariants.{NotARequest, TooLarge, Unsound, Circular, NotOneItem, NotOffered}
-use Rattle.request.specs.declared.answers.Answer.{Answer}
-use Rattle.request.specs.declared.answers.Answer.TheVariants.{Refused, Complete, Prefix, Wrong, Found, NotThere, Fits}
+use Rattle.request.specs.declared.answers.Answer.TheVariants.{Refused}
 use Rattle.std.proofs.lemmas.List.{append-nil}
 use Rattle.cbor.specs.Encoding.{head}
 use Rattle.sequence.specs.Token.{num, str, token_bytes, spell}
@@ -12,7 +11,7 @@ use Rattle.request.specs.Asked.{Asked, check, find, fit, write, Writable}
 use Rattle.request.specs.Reading.{RulesThere}
 use Rattle.answer.specs.declared.refusals.Offered.{Offered}
 use Rattle.answer.specs.Refusals.{Applies, order, First, FirstRefusal}
-use Rattle.answer.specs.Promise.{offered, CheckTold, Told, RulesReadable, Right}
+use Rattle.answer.specs.Promise.{offered, RulesReadable, Right}
 
 -- what is first of a list applies
 applies : (o : Offered) (xs : List Refusal) (a : Asked) (x : Refusal) → First o xs a (Some x) → Applies o x a
@@ -42,25 +41,6 @@ refused bs a n x l e w g f = by_refusal x f
     by_refusal Circular f = (a, drop n bs, whole, w, has_rules a bs (drop n bs) whole w g, (f, refl))
     by_refusal NotOneItem f = (a, drop n bs, whole, w, has_rules a bs (drop n bs) whole w g, (f, refl))
     by_refusal NotOffered f = (a, drop n bs, whole, w, has_rules a bs (drop n bs) whole w g, (f, refl))
-
--- what is told of bytes that are asked to be checked is the right answer
-pub told : (bs : List ℕ) (a : Asked) (n : ℕ) (item : List ℕ) (r : Answer) → n ≤ length bs → take n bs ≡ write a → Writable a → ((rules : List ℕ) → RulesThere bs rules → Readable rules) → FirstRefusal offered a None → a ≡ check item → CheckTold item r → Right bs r
-told bs a n item r l e w g f is t = by_answer r t
-  where
-    whole : bs ≡ write a ++ drop n bs
-    whole = sym (take-append-drop n bs) ∙ ap (λ u. u ++ drop n bs) e
-
-    asked : (r : Answer) → CheckTold item r → Told a r
-    asked r t = subst (λ x. Told x r) (sym is) t
-
-    by_answer : (r : Answer) → CheckTold item r → Right bs r
-    by_answer (Refused x p) t = absurd t
-    by_answer Complete t = (a, drop n bs, whole, w, has_rules a bs (drop n bs) whole w g, (f, asked Complete t))
-    by_answer Prefix t = (a, drop n bs, whole, w, has_rules a bs (drop n bs) whole w g, (f, asked Prefix t))
-    by_answer (Wrong p) t = (a, drop n bs, whole, w, has_rules a bs (drop n bs) whole w g, (f, asked (Wrong p) t))
-    by_answer (Found from size) t = absurd t
-    by_answer NotThere t = absurd t
-    by_answer (Fits y) t = absurd t
 
 -- rules lie within the bytes that they stand in
 pub rules_within : (bs rules : List ℕ) → RulesThere bs rules → 1 + length (head 2 (length rules)) + length rules ≤ length bs

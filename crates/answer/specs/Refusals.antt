@@ -1,5 +1,5 @@
 -- Which refusals apply to a request, and which of them is told.
-use Rattle.std.specs.Prelude.{◌≡◌, ℕ, ◌<◌, ◌≤◌, Bool, false, ◌⊎◌, List, [], ◌∷◌, length, Some, None, Option}
+use Rattle.std.specs.Prelude.{◌≡◌, ◌<◌, ◌≤◌, Bool, false, ◌⊎◌, List, [], ◌∷◌, length, Some, None, Option}
 use Rattle.request.specs.declared.answers.Refusal.{Refusal}
 use Rattle.request.specs.declared.answers.Refusal.TheVariants.{NotARequest, TooLarge, Unsound, Circular, NotOneItem, NotOffered}
 use Rattle.request.specs.Asked.{Asked, check, find, fit}

@@ -2,13 +2,12 @@
 
 #![tactic(auto)]
 
-ghost use Rattle.std.specs.Prelude.{◌<◌, ◌≤◌, length};
-ghost use Rattle.answer.specs.Promise.{Answers, CheckTold, RulesToldOf};
+ghost use Rattle.std.specs.Prelude.{◌≤◌, length};
+ghost use Rattle.answer.specs.Promise.{Answers, RulesToldOf};
 
 use cbor::writing::head_size;
-use checker::{Verdict, check};
 use request::answers::{Answer, Refusal};
-use request::reading::{Request, read_request, rules_in};
+use request::reading::{read_request, rules_in};
 use schema::reading::NoRules;
 
 pub mod refusals;
@@ -18,10 +17,10 @@ use refusals::{Offered, first_refusal};
 use rules::read_into;
 
 // How many numbers have to be lent: what reading rules takes for its stack and for their table.
-pub const LENT: usize = 57348;
+pub const LENT: usize = 49156;
 
 const OFFERED: Offered = Offered {
-    check: true,
+    check: false,
     find: false,
     fit: false,
 };
@@ -31,7 +30,7 @@ pub struct TooLittleLent;
 
 // The place at which the rules of a request are wrong, if they are all there and it is.
 fn wrong_rules(bytes: &[u8], lent: &mut [u64]) -> Option<usize>
-    requires { 57348 ≤ length lent.old }
+    requires { 49156 ≤ length lent.old }
     ensures { RulesToldOf bytes.now result }
 {
     let Some(rules) = rules_in(bytes) else {
@@ -43,22 +42,6 @@ fn wrong_rules(bytes: &[u8], lent: &mut [u64]) -> Option<usize>
     match reason {
         NoRules::Wrong(place) => Some(1 + head_size(rules.len() as u64) + place),
         _ => None,
-    }
-}
-
-// The answer to a request to check these bytes.
-fn checked(item: &[u8], lent: &mut [u64]) -> Answer
-    requires item_len_bound { length item.now < 1152921504606846976 }
-    requires in_bounds { 57348 ≤ length lent.old }
-    ensures { CheckTold item.now result }
-{
-    let Ok(verdict) = check(item, lent) else {
-        unreachable()
-    };
-    match verdict {
-        Verdict::Complete => Answer::Complete,
-        Verdict::Prefix => Answer::Prefix,
-        Verdict::Wrong(place) => Answer::Wrong(place),
     }
 }
 
@@ -76,11 +59,8 @@ pub fn answer(bytes: &[u8], lent: &mut [u64]) -> Result<Answer, TooLittleLent>
         Ok(taken) => taken,
         Err(stop) => return Ok(Answer::Refused(Refusal::NotARequest, stop.place)),
     };
-    if let Some(refusal) = first_refusal(taken.request, OFFERED, lent) {
-        return Ok(Answer::Refused(refusal, 0));
-    }
-    let Request::Check(item) = taken.request else {
+    let Some(refusal) = first_refusal(taken.request, OFFERED, lent) else {
         unreachable()
     };
-    Ok(checked(item, lent))
+    Ok(Answer::Refused(refusal, 0))
 }

@@ -36,7 +36,7 @@ fn if_offered<'a>(request: Request<'a>, offered: Offered) -> Option<Request<'a>>
 }
 
 fn too_many_parts(rules: &[u8], lent: &mut [u64]) -> bool
-    requires { 57348 ≤ length lent.old }
+    requires { 49156 ≤ length lent.old }
     ensures { Decides result (HasTooMany rules.now) }
 {
     match read_into(rules, lent) {
@@ -46,7 +46,7 @@ fn too_many_parts(rules: &[u8], lent: &mut [u64]) -> bool
 }
 
 fn if_within_limits<'a>(request: Request<'a>, lent: &mut [u64]) -> Option<Request<'a>>
-    requires { 57348 ≤ length lent.old }
+    requires { 49156 ≤ length lent.old }
     ensures { Passes IsTooLarge request.entry result }
 {
     let too_large = match request {
@@ -63,7 +63,7 @@ pub(crate) fn first_refusal(
     offered: Offered,
     lent: &mut [u64],
 ) -> Option<Refusal>
-    requires { 57348 ≤ length lent.old }
+    requires { 49156 ≤ length lent.old }
     ensures { (a : Asked) → Means request.entry a → FirstRefusal offered a result }
 {
     let Some(request) = if_offered(request, offered) else {

@@ -5,7 +5,7 @@ ghost use Rattle.schema.specs.Verdict.{RulesAt};
 use schema::reading::{NoRules, Rules, STACK, read_rules};
 
 pub(crate) fn read_into(rules: &[u8], lent: &mut [u64]) -> Result<Rules, NoRules>
-    requires { 57348 ≤ length lent.old }
+    requires { 49156 ≤ length lent.old }
     ensures { (table : List ℕ) × RulesAt rules.now table result }
 {
     let (stack, table) = lent.split_at_mut(STACK);

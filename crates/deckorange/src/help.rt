@@ -12,13 +12,11 @@ usage: deckorange [FILE]
 Answers the requests in FILE, or those on standard input if there is no FILE:
 a line of numbers for each request, in their order.
 
-  1       one item: all of the bytes that are asked about
-  2       the beginning of one
-  3 P     neither: no item begins with the bytes up to and with the one at P
-  0 N 0   refused: 2 too large, 6 not offered yet (find and fit)
+  0 6 0   a request, of a kind that is not offered yet
   0 1 P   no request: the byte at P, counted from 0 at the request's start, is
-          the first with which the bytes begin none, or they end at P. The run
-          ends there.
+          the first with which the bytes begin none, or they end at P
+
+Nothing behind a line that begins 0 1 is answered.
 
 A request is answered from a buffer of {BUFFER} bytes. A larger request
 ends the run.

@@ -30,7 +30,7 @@ pub struct Responder {
     lent: Vec<u64>,
     out: BufWriter<Stdout>,
     // As many as `LENT`.
-    ghost enough: { vec_len lent ≡ 57348 },
+    ghost enough: { vec_len lent ≡ 49156 },
 }
 
 impl Responder {
@@ -117,7 +117,7 @@ impl Responder {
 
 // Writes the line, and says whether the bytes begin with a request.
 fn write_answer(bytes: &[u8], lent: &mut [u64], out: &mut BufWriter<Stdout>) -> Result<bool, Fault>
-    requires { length lent.old ≡ 57348 }
+    requires { length lent.old ≡ 49156 }
 {
     let Ok(line) = answer(bytes, lent) else {
         unreachable!()

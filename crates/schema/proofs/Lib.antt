@@ -1,10 +1,6 @@
 pub mod Trees
-pub mod Alike
 pub mod Parts
 pub mod Places
 pub mod Stacks
 pub mod Rows
-pub mod Links
-pub mod Layouts
-pub mod Roots
 pub mod Progresses

@@ -1,15 +1,15 @@
 -- Nodes at places of lent bytes.
-use Rattle.std.proofs.Common.{◌≡◌, ℕ, zero, suc, ◌+◌, ◌-◌, ◌<◌, ◌≤◌, ◌⊎◌, List, [], ◌∷◌, ◌++◌, length, take, drop, Ok, Err, Result, sym, refl, ap, ◌∙◌, subst, inl, inr, arith, Bor}
+use Rattle.std.proofs.Common.{◌≡◌, ℕ, zero, suc, ◌-◌, ◌<◌, ◌≤◌, ◌⊎◌, List, [], ◌∷◌, ◌++◌, length, take, drop, Ok, Err, Result, sym, refl, ap, ◌∙◌, subst, inl, inr, arith, Bor}
 use Rattle.std.proofs.lemmas.Bool.{cases_eq}
 use Rattle.cbor.specs.declared.reading.Stop.{Stop}
 use Rattle.cbor.specs.Prefix.{Any}
 use Rattle.cbor.specs.Reading.{Stopped}
 use Rattle.cbor.proofs.Words.{stops_same}
 use Rattle.cbor.proofs.Places.{part_length}
-use Rattle.sequence.specs.Token.{Token, num, str, spell, Shape, number, string, Word, ByteString, TokenOf}
+use Rattle.sequence.specs.Token.{Token, num, str, spell, number, string, Word, TokenOf}
 use Rattle.sequence.specs.Grammar.{next, Takes, Completes}
-use Rattle.sequence.specs.Reading.{TokenAt, SpelledAt, PendingStops}
-use Rattle.sequence.proofs.Grammars.{spelled_one, spelled_append, spelled_two, stop_first, stop_later, none_stands, same_token}
+use Rattle.sequence.specs.Reading.{TokenAt, SpelledAt}
+use Rattle.sequence.proofs.Grammars.{spelled_one, spelled_append, stop_first, stop_later, none_stands, same_token}
 use Rattle.schema.specs.declared.nodes.Schema.{Schema}
 use Rattle.schema.specs.declared.nodes.Schema.TheVariants.{Literal}
 use Rattle.schema.specs.declared.nodes.Group.TheVariants.{Repeat}

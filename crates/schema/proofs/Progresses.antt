@@ -1,11 +1,11 @@
 -- Reading rules, node by node.
-use Rattle.std.proofs.Common.{◌≡◌, ℕ, zero, suc, ◌+◌, ◌-◌, ◌*◌, ◌<◌, ◌≤◌, List, [], ◌∷◌, ◌++◌, length, get_or, take, drop, Ok, Err, Result, sym, refl, ap, ◌∙◌, subst, inl, inr, append_assoc, add-one, arith, take-append-drop}
+use Rattle.std.proofs.Common.{◌≡◌, ℕ, zero, suc, ◌+◌, ◌-◌, ◌*◌, ◌<◌, ◌≤◌, List, [], ◌∷◌, ◌++◌, length, get_or, take, drop, Ok, Err, Result, sym, refl, ap, ◌∙◌, subst, inl, inr, append_assoc, arith, take-append-drop}
 use Rattle.std.proofs.lemmas.Bool.{cases_lt}
 use Rattle.std.proofs.lemmas.List.{append-nil, take_all, take_more}
 use Rattle.cbor.specs.declared.reading.Stop.{Stop}
 use Rattle.cbor.specs.Prefix.{Any as AnyOf, Stops}
 use Rattle.cbor.specs.Reading.{Stopped}
-use Rattle.sequence.specs.Token.{Token, num, spell, number, Word, TokenOf}
+use Rattle.sequence.specs.Token.{Token, num, spell, number, TokenOf}
 use Rattle.sequence.specs.Grammar.{Takes, Completes}
 use Rattle.sequence.specs.Reading.{TokenAt, SpelledAt, PendingStops}
 use Rattle.sequence.proofs.Grammars.{takes_append, completes_free, spelled_one, spelled_append, stop_after, one_begins}
@@ -26,15 +26,10 @@ use Rattle.schema.specs.Stacks.{number_sort, pending}
 use Rattle.schema.specs.declared.reading.Rules.{Rules}
 use Rattle.schema.specs.declared.reading.NoRules.{NoRules}
 use Rattle.schema.specs.declared.reading.NoRules.TheVariants.{TooLittleLent, TooLarge, Wrong}
-use Rattle.schema.specs.Verdict.{HasTooMany, WrongAt, NodeRow, Leads, Reached, RulesAt, RulesTold, IsRead, ReadsBack}
-use Rattle.schema.proofs.Alike.{alike}
-use Rattle.schema.proofs.Trees.{rules_take, are_completes, completes_are}
+use Rattle.schema.specs.Verdict.{HasTooMany, WrongAt, Reached, Tabled, RulesAt, RulesTold, IsRead, ReadsBack}
+use Rattle.schema.proofs.Trees.{rules_take, rules_in, are_completes, completes_are}
 use Rattle.schema.specs.Table.{rows, RowWritten}
-use Rattle.schema.specs.Links.{Complete, Linked}
-use Rattle.schema.specs.Layout.{SchemasAt}
 use Rattle.schema.proofs.Places.{ceases_first}
-use Rattle.schema.proofs.Rows.{row_same, rows_same, rows_more}
-use Rattle.schema.proofs.Layouts.{leads_more, leads_kept, complete, rules_laid, laid_says}
 use Rattle.schema.proofs.Parts.{parts_append, rules_count, node_weighs}
 
 -- where pending rules stop, they are wrong
@@ -110,7 +105,6 @@ module _ (bs stack table : List ℕ) (s : Progress) (h : Reached bs stack table 
     listed = h.listed;
     count = h.count;
     tabled = h.tabled;
-    led = subst (λ ss. Leads bs table 0 s.nodes (many h.count a_rule) ss) (ap (pending stack) d ∙ e) h.led;
   }
 
   module _ (taken : List ℕ) (q : NodeSort) (top : pending stack s.depth ≡ sort_of q ∷ pending taken s.depth) where
@@ -138,31 +132,18 @@ module _ (bs stack table : List ℕ) (s : Progress) (h : Reached bs stack table 
       pub too_many : 8192 < s.parts + (rule_part q + (1 + string_in x.node)) → HasTooMany bs
       too_many l = (h.read ++ own_tokens x.node, inside x.node ++ pending taken s.depth, x.next, spelled, taking, whole_many (inner_of_node x.node).1 (inner_of_node x.node).0 (pending taken s.depth) (opens_inside x.node) (whole_pending taken s.depth), subst (λ n. 8192 < n) (sym counting) l)
 
-      rowed_rows : (rowed : List ℕ) (inner : ℕ) → RowWritten table s.nodes x.node x.next inner rowed → rows bs rowed (s.nodes + 1) ≡ rows bs table s.nodes ++ own_tokens x.node
-      rowed_rows rowed inner row = rows_more bs rowed s.nodes ∙ (λ i. rows_same bs table rowed s.nodes (λ k l. row_same bs table rowed k (λ m b. row.before m (omega arith))) i ++ row.says bs s.at node.2 i)
-
-      rowed_leads : (rowed : List ℕ) (inner : ℕ) → RowWritten table s.nodes x.node x.next inner rowed → inner ≡ (inner_of_node x.node).1 → Leads bs rowed 0 (s.nodes + 1) (many h.count a_rule) (inside x.node ++ pending taken s.depth)
-      rowed_leads rowed inner row e =
-          let before = leads_kept bs table rowed 0 s.nodes (many h.count a_rule) (sort_of q ∷ pending taken s.depth) (λ k l. row.before k (omega arith)) (subst (λ ss. Leads bs table 0 s.nodes (many h.count a_rule) ss) top h.led) in
-          let z : 0 + s.nodes ≡ s.nodes = omega arith in
-          let here : NodeRow bs rowed (0 + s.nodes) (sort_of q) x.node = subst (λ k. NodeRow bs rowed k (sort_of q) x.node) (sym z) (record { sort = node.0; says = row.says bs s.at node.2; inner = row.linked ∙ e; takes = node.3 }) in
-          subst (λ k. Leads bs rowed 0 k (many h.count a_rule) (inside x.node ++ pending taken s.depth)) (sym (add-one s.nodes)) (leads_more bs rowed 0 s.nodes (many h.count a_rule) (sort_of q) (pending taken s.depth) x.node before here)
-
-      pub one_node : (new rowed : List ℕ) (r : Run) (n : ℕ) → RowWritten table s.nodes x.node x.next r.count rowed → run_of r ≡ inner_of_node x.node → pending new (s.depth + 1) ≡ many r.count (sort_of r.sort) ++ pending taken s.depth → n ≡ s.parts + (rule_part q + (1 + string_in x.node)) → n ≤ 8192 → Reached bs new rowed (record { at = x.next; depth = s.depth + 1; parts = n; nodes = s.nodes + 1 })
-      one_node new rowed r n row e p m l =
-          let stacked : pending new (s.depth + 1) ≡ inside x.node ++ pending taken s.depth = p ∙ ap (λ y. many y.1 y.0 ++ pending taken s.depth) e in
-          record {
-            few = l;
-            deep = (let z = h.deep in omega arith);
-            read = h.read ++ own_tokens x.node;
-            spelled = spelled;
-            takes = subst (λ ss. Takes grammar (the_rules ∷ []) (h.read ++ own_tokens x.node) ss) (sym stacked) taking;
-            counted = m ∙ sym counting;
-            listed = (let z = h.listed in omega arith);
-            count = h.count;
-            tabled = ap (λ ts. ts ++ own_tokens x.node) h.tabled ∙ ap (λ ts. num h.count ∷ ts) (sym (rowed_rows rowed r.count row));
-            led = subst (λ ss. Leads bs rowed 0 (s.nodes + 1) (many h.count a_rule) ss) (sym stacked) (rowed_leads rowed r.count row (ap (λ y. y.1) e));
-          }
+      pub one_node : (new rowed : List ℕ) (r : Run) (n : ℕ) → RowWritten table s.nodes x.node x.next rowed → run_of r ≡ inner_of_node x.node → pending new (s.depth + 1) ≡ many r.count (sort_of r.sort) ++ pending taken s.depth → n ≡ s.parts + (rule_part q + (1 + string_in x.node)) → n ≤ 8192 → Reached bs new rowed (record { at = x.next; depth = s.depth + 1; parts = n; nodes = s.nodes + 1 })
+      one_node new rowed r n row e p m l = record {
+        few = l;
+        deep = (let z = h.deep in omega arith);
+        read = h.read ++ own_tokens x.node;
+        spelled = spelled;
+        takes = subst (λ ss. Takes grammar (the_rules ∷ []) (h.read ++ own_tokens x.node) ss) (sym (p ∙ ap (λ y. many y.1 y.0 ++ pending taken s.depth) e)) taking;
+        counted = m ∙ sym counting;
+        listed = (let z = h.listed in omega arith);
+        count = h.count;
+        tabled = ap (λ ts. ts ++ own_tokens x.node) h.tabled ∙ ap (λ ts. num h.count ∷ ts) (sym (row bs s.at node.2));
+      }
 
 -- THE BEGINNING AND THE END
 
@@ -173,7 +154,7 @@ no_number bs stop h =
     (wrong_from bs stop p, not_too_many bs [] (the_rules ∷ []) 0 refl (omega arith, omega arith, refl) (omega arith) stuck)
 
 pub begun : (bs stack table : List ℕ) (n end : ℕ) → TokenAt number (num n) bs 0 end → pending stack 1 ≡ many n a_rule ++ [] → Reached bs stack table (record { at = end; depth = 1; parts = 0; nodes = 0 })
-unfolding Takes parts_in rows Leads
+unfolding Takes parts_in rows
 begun bs stack table n end t e = record {
   few = omega arith;
   deep = omega arith;
@@ -184,7 +165,6 @@ begun bs stack table n end t e = record {
   listed = omega arith;
   count = n;
   tabled = refl;
-  led = sym (append-nil (many n a_rule)) ∙ sym e;
 }
 
 module _ (bs stack table : List ℕ) (s : Progress) (h : Reached bs stack table s) (z : s.depth ≡ 0) where
@@ -220,20 +200,12 @@ module _ (bs stack table : List ℕ) (s : Progress) (h : Reached bs stack table 
   trailing l = (wrong_after l, not_too_many bs h.read [] s.at over h.spelled (let y = h.few in let x = h.counted in omega arith) nothing_more)
 
   -- nothing after them
-  led_out : Leads bs table 0 s.nodes (many h.count a_rule) []
-  unfolding pending
-  led_out = subst (λ k. Leads bs table 0 s.nodes (many h.count a_rule) (pending stack k)) z h.led
-
-  pub all_read : Complete table s.nodes
-  all_read = complete bs table h.count s.nodes led_out
-
-  pub whole : (new : List ℕ) → Linked table s.nodes new → length bs ≤ s.at → ((xs : List Schema) × AreRules xs bs × (s.parts ≡ parts xs) × SchemasAt bs new xs 0 s.nodes) × (s.nodes ≤ s.parts) × (s.parts ≤ 8192) × (HasTooMany bs → ⊥)
-  unfolding Takes
-  whole new linked l =
-      let (xs, k, w, laid) = rules_laid bs table new s.nodes linked h.count led_out in
-      let e : h.read ≡ tokens xs = h.tabled ∙ (λ i. num (sym k i) ∷ (sym (rows_same bs table new s.nodes (λ j _. linked.says bs j)) ∙ sym (laid_says bs new xs s.nodes laid)) i) in
-      let few : Word (length xs) = (subst (λ ts. Takes grammar (the_rules ∷ []) ts []) e over).0 in
-      ((xs, (sym (take_all s.at bs l) ∙ front ∙ ap spell e, (few, w)), h.counted ∙ ap (parts_in (the_rules ∷ [])) e ∙ rules_count xs, laid), h.listed, h.few, not_too_many bs h.read [] s.at over h.spelled (let y = h.few in let x = h.counted in omega arith) nothing_more)
+  pub whole : length bs ≤ s.at → ((xs : List Schema) × AreRules xs bs × (s.parts ≡ parts xs) × Tabled xs bs table s.nodes) × (s.nodes ≤ s.parts) × (s.parts ≤ 8192) × (HasTooMany bs → ⊥)
+  whole l =
+      let (xs, w, e) = rules_in h.read over in
+      let f : tokens xs ≡ num h.count ∷ rows bs table s.nodes = sym e ∙ h.tabled in
+      let k : h.count ≡ length xs = cc in
+      ((xs, (sym (take_all s.at bs l) ∙ front ∙ ap spell e, w), h.counted ∙ ap (parts_in (the_rules ∷ [])) e ∙ rules_count xs, f ∙ ap (λ n. num n ∷ rows bs table s.nodes) k), h.listed, h.few, not_too_many bs h.read [] s.at over h.spelled (let y = h.few in let x = h.counted in omega arith) nothing_more)
 
 -- READ BACK
 
@@ -246,8 +218,11 @@ module _ (bs : List ℕ) (xs : List Schema) (w : Writable xs) (e : bs ≡ write 
   same_tokens : (ys : List Schema) → AreRules ys bs → tokens ys ≡ tokens xs
   same_tokens ys (f, v) = (completes_free grammar (the_rules ∷ []) (tokens ys) (tokens xs) (write ys) [] (refl, rules_take ys v) (append-nil (write ys) ∙ sym f ∙ e, rules_take xs w)).0
 
-  same_rules : (ys : List Schema) (table : List ℕ) (r : Rules) → AreRules ys bs → r.parts ≡ parts ys → SchemasAt bs table ys 0 r.nodes → IsRead xs bs table (Ok r)
-  same_rules ys table r f m t = let z = alike ys xs (same_tokens ys f) in (m ∙ ap parts z, subst (λ ss. SchemasAt bs table ss 0 r.nodes) z t)
+  same_rules : (ys : List Schema) (table : List ℕ) (r : Rules) → AreRules ys bs → r.parts ≡ parts ys → Tabled ys bs table r.nodes → IsRead xs bs table (Ok r)
+  same_rules ys table r f m t =
+      let z = same_tokens ys f in
+      let k : length ys ≡ length xs = cc in
+      (m ∙ sym (rules_count ys) ∙ ap (parts_in (the_rules ∷ [])) z ∙ rules_count xs, sym z ∙ t ∙ ap (λ n. num n ∷ rows bs table r.nodes) k)
 
   few_parts : parts xs ≤ 8192 → HasTooMany bs → ⊥
   few_parts l = not_too_many bs (tokens xs) [] (length bs) (rules_take xs w) (omega arith, omega arith, ap (λ k. take k bs) (let z : length bs - 0 ≡ length bs = omega arith in z) ∙ take_all (length bs) bs (omega arith) ∙ e) (omega (arith, rules_count xs)) (nothing_left bs (length bs))

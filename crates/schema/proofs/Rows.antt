@@ -14,39 +14,36 @@ use Rattle.schema.specs.declared.entries.Form.TheVariants.{String}
 use Rattle.schema.specs.Entries.{form_tokens, EntryOf}
 use Rattle.schema.specs.Table.{row_says, row_at, rows, RowOf, RowWritten}
 
--- rows are by their numbers alone
-pub row_same : (bs old new : List ℕ) (i : ℕ) → ((k : ℕ) → k < 5 * i + 4 → get_or new k 0 ≡ get_or old k 0) → row_at bs new i ≡ row_at bs old i
-row_same bs old new i same = (λ j. row_says bs (same (5 * i) (omega arith) j) (same (5 * i + 1) (omega arith) j) (same (5 * i + 2) (omega arith) j) (same (5 * i + 3) (omega arith) j))
-
-pub rows_same : (bs old new : List ℕ) (n : ℕ) → ((i : ℕ) → i < n → row_at bs new i ≡ row_at bs old i) → rows bs new n ≡ rows bs old n
+-- a number past the rows doesn't matter
+rows_set : (bs table : List ℕ) (j v n : ℕ) → 4 * n ≤ j → rows bs (set table j v) n ≡ rows bs table n
 unfolding rows
-rows_same bs old new zero same = refl
-rows_same bs old new (suc n) same = (λ j. rows_same bs old new n (λ i h. same i (omega arith)) j ++ same n (omega arith) j)
+rows_set bs table j v zero h = refl
+rows_set bs table j v (suc n) h =
+    let a : get_or (set table j v) (4 * n) 0 ≡ get_or table (4 * n) 0 = get_or-set_other table j (4 * n) v 0 (λ e. omega arith) in
+    let b : get_or (set table j v) (4 * n + 1) 0 ≡ get_or table (4 * n + 1) 0 = get_or-set_other table j (4 * n + 1) v 0 (λ e. omega arith) in
+    let c : get_or (set table j v) (4 * n + 2) 0 ≡ get_or table (4 * n + 2) 0 = get_or-set_other table j (4 * n + 2) v 0 (λ e. omega arith) in
+    let d : get_or (set table j v) (4 * n + 3) 0 ≡ get_or table (4 * n + 3) 0 = get_or-set_other table j (4 * n + 3) v 0 (λ e. omega arith) in
+    (λ i. rows_set bs table j v n (omega arith) i ++ row_says bs (a i) (b i) (c i) (d i))
 
-pub rows_more : (bs table : List ℕ) (n : ℕ) → rows bs table (n + 1) ≡ rows bs table n ++ row_at bs table n
+rows_more : (bs table : List ℕ) (n : ℕ) → rows bs table (n + 1) ≡ rows bs table n ++ row_at bs table n
 unfolding rows
 rows_more bs table n = ap (rows bs table) (add-one n)
 
-pub row_written : (old : List ℕ) (n : ℕ) (x : Node) (next inner : ℕ) (y : Entry) (r : Row) → 5 * n + 5 ≤ length old → EntryOf x y → RowOf y next r → RowWritten old n x next inner (set (set (set (set (set old (5 * n) r.opcode) (5 * n + 1) r.form) (5 * n + 2) r.first) (5 * n + 3) r.second) (5 * n + 4) inner)
-row_written old n x next inner y r h is says =
-    let one = set old (5 * n) r.opcode in
-    let two = set one (5 * n + 1) r.form in
-    let three = set two (5 * n + 2) r.first in
-    let four = set three (5 * n + 3) r.second in
-    let new = set four (5 * n + 4) inner in
-    let l : length one ≡ length old = length-set old (5 * n) r.opcode in
-    let m : length two ≡ length one = length-set one (5 * n + 1) r.form in
-    let o : length three ≡ length two = length-set two (5 * n + 2) r.first in
-    let q : length four ≡ length three = length-set three (5 * n + 3) r.second in
-    let a : get_or new (5 * n) 0 ≡ r.opcode = get_or-set_other four (5 * n + 4) (5 * n) inner 0 (λ z. omega arith) ∙ get_or-set_other three (5 * n + 3) (5 * n) r.second 0 (λ z. omega arith) ∙ get_or-set_other two (5 * n + 2) (5 * n) r.first 0 (λ z. omega arith) ∙ get_or-set_other one (5 * n + 1) (5 * n) r.form 0 (λ z. omega arith) ∙ get_or-set_same old (5 * n) r.opcode 0 (omega arith) in
-    let b : get_or new (5 * n + 1) 0 ≡ r.form = get_or-set_other four (5 * n + 4) (5 * n + 1) inner 0 (λ z. omega arith) ∙ get_or-set_other three (5 * n + 3) (5 * n + 1) r.second 0 (λ z. omega arith) ∙ get_or-set_other two (5 * n + 2) (5 * n + 1) r.first 0 (λ z. omega arith) ∙ get_or-set_same one (5 * n + 1) r.form 0 (omega arith) in
-    let c : get_or new (5 * n + 2) 0 ≡ r.first = get_or-set_other four (5 * n + 4) (5 * n + 2) inner 0 (λ z. omega arith) ∙ get_or-set_other three (5 * n + 3) (5 * n + 2) r.second 0 (λ z. omega arith) ∙ get_or-set_same two (5 * n + 2) r.first 0 (omega arith) in
-    let d : get_or new (5 * n + 3) 0 ≡ r.second = get_or-set_other four (5 * n + 4) (5 * n + 3) inner 0 (λ z. omega arith) ∙ get_or-set_same three (5 * n + 3) r.second 0 (omega arith) in
-    record {
-      before = λ k z. get_or-set_other four (5 * n + 4) k inner 0 (λ y. omega arith) ∙ get_or-set_other three (5 * n + 3) k r.second 0 (λ y. omega arith) ∙ get_or-set_other two (5 * n + 2) k r.first 0 (λ y. omega arith) ∙ get_or-set_other one (5 * n + 1) k r.form 0 (λ y. omega arith) ∙ get_or-set_other old (5 * n) k r.opcode 0 (λ y. omega arith);
-      says = λ bs at e. (λ i. row_says bs (a i) (b i) (c i) (d i)) ∙ says bs at (subst (λ ts. SpelledAt ts bs at next) (sym is) e) ∙ is;
-      linked = get_or-set_same four (5 * n + 4) inner 0 (omega arith);
-    }
+pub row_written : (old : List ℕ) (n : ℕ) (x : Node) (next : ℕ) (y : Entry) (r : Row) → 4 * n + 4 ≤ length old → EntryOf x y → RowOf y next r → RowWritten old n x next (set (set (set (set old (4 * n) r.opcode) (4 * n + 1) r.form) (4 * n + 2) r.first) (4 * n + 3) r.second)
+row_written old n x next y r h is says bs at e =
+    let one = set old (4 * n) r.opcode in
+    let two = set one (4 * n + 1) r.form in
+    let three = set two (4 * n + 2) r.first in
+    let new = set three (4 * n + 3) r.second in
+    let l : length one ≡ length old = length-set old (4 * n) r.opcode in
+    let m : length two ≡ length one = length-set one (4 * n + 1) r.form in
+    let k : length three ≡ length two = length-set two (4 * n + 2) r.first in
+    let a : get_or new (4 * n) 0 ≡ r.opcode = get_or-set_other three (4 * n + 3) (4 * n) r.second 0 (λ z. omega arith) ∙ get_or-set_other two (4 * n + 2) (4 * n) r.first 0 (λ z. omega arith) ∙ get_or-set_other one (4 * n + 1) (4 * n) r.form 0 (λ z. omega arith) ∙ get_or-set_same old (4 * n) r.opcode 0 (omega arith) in
+    let b : get_or new (4 * n + 1) 0 ≡ r.form = get_or-set_other three (4 * n + 3) (4 * n + 1) r.second 0 (λ z. omega arith) ∙ get_or-set_other two (4 * n + 2) (4 * n + 1) r.first 0 (λ z. omega arith) ∙ get_or-set_same one (4 * n + 1) r.form 0 (omega arith) in
+    let c : get_or new (4 * n + 2) 0 ≡ r.first = get_or-set_other three (4 * n + 3) (4 * n + 2) r.second 0 (λ z. omega arith) ∙ get_or-set_same two (4 * n + 2) r.first 0 (omega arith) in
+    let d : get_or new (4 * n + 3) 0 ≡ r.second = get_or-set_same three (4 * n + 3) r.second 0 (omega arith) in
+    let p : rows bs new n ≡ rows bs old n = rows_set bs three (4 * n + 3) r.second n (omega arith) ∙ rows_set bs two (4 * n + 2) r.first n (omega arith) ∙ rows_set bs one (4 * n + 1) r.form n (omega arith) ∙ rows_set bs old (4 * n) r.opcode n (omega arith) in
+    rows_more bs new n ∙ (λ i. p i ++ row_says bs (a i) (b i) (c i) (d i)) ∙ ap (λ ts. rows bs old n ++ ts) (says bs at (subst (λ ts. SpelledAt ts bs at next) (sym is) e) ∙ is)
 
 -- a string that is the last of some tokens ends where they do
 last_string : (n : ℕ) (k : List ℕ) (bs : List ℕ) (at end : ℕ) → SpelledAt (num n ∷ str k ∷ []) bs at end → take (length k) (drop (end - length k) bs) ≡ k

@@ -1,5 +1,5 @@
 -- Nodes as they are written: an opcode, and what stands after it.
-use Rattle.std.specs.Prelude.{◌≡◌, ℕ, List, [], ◌∷◌, Some, None, Option}
+use Rattle.std.specs.Prelude.{◌≡◌, ℕ, List, [], ◌∷◌}
 use Rattle.sequence.specs.Token.{Token, num, str}
 use Rattle.schema.specs.declared.nodes.Node.{Node}
 use Rattle.schema.specs.declared.entries.Form.{Form}
@@ -15,8 +15,3 @@ form_tokens opcode (String s) = num opcode ∷ str s.now ∷ []
 
 abbrev pub EntryOf : Node → Entry → Type 0
 EntryOf x e = form_tokens e.opcode e.form ≡ own_tokens x
-
--- the node of a sort that is written so, or none
-abbrev pub ReadAs : {A : Type 0} → (A → Node) → Entry → Option A → Type 0
-ReadAs node e (Some x) = EntryOf (node x) e
-ReadAs {A} node e None = (x : A) → EntryOf (node x) e → ⊥

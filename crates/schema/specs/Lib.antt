@@ -5,7 +5,4 @@ pub mod Entries
 pub mod Reading
 pub mod Stacks
 pub mod Table
-pub mod Links
-pub mod Layout
-pub mod Roots
 pub mod Verdict

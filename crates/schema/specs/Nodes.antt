@@ -1,5 +1,5 @@
 -- One schema, group or field as it is read: the tokens that are its own, what is pending for those in it, and the parts that it counts for.
-use Rattle.std.specs.Prelude.{ℕ, suc, ◌+◌, List, [], ◌∷◌, length}
+use Rattle.std.specs.Prelude.{ℕ, List, [], ◌∷◌, length}
 use Rattle.sequence.specs.Token.{Token, num, str}
 use Rattle.schema.specs.declared.nodes.Schema.{Schema}
 use Rattle.schema.specs.declared.nodes.Schema.TheVariants.{Any, Unsigned, Negative, ByteLength, TextLength, Literal, Choice, Array, Map, Tag, Rule}

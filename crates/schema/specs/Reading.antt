@@ -1,5 +1,5 @@
 -- What reading a node tells.
-use Rattle.std.specs.Prelude.{◌≡◌, ℕ, ◌+◌, ◌<◌, ◌≤◌, ◌⊎◌, List, [], ◌∷◌, ◌++◌, length, Ok, Err, Result}
+use Rattle.std.specs.Prelude.{◌≡◌, ℕ, ◌<◌, ◌⊎◌, List, [], ◌∷◌, ◌++◌, Ok, Err, Result}
 use Rattle.cbor.specs.declared.reading.Stop.{Stop}
 use Rattle.sequence.specs.Token.{Token, num, str, Word}
 use Rattle.sequence.specs.Grammar.{Takes}

@@ -1,5 +1,5 @@
 -- Rules, after CDDL (RFC 8610): their trees, and the tokens that they are written in, each parent before its children.
-use Rattle.std.specs.Prelude.{◌≡◌, ℕ, suc, ◌+◌, List, [], ◌∷◌, ◌++◌, length}
+use Rattle.std.specs.Prelude.{◌≡◌, ℕ, suc, ◌+◌, List, [], ◌∷◌, length}
 use Rattle.sequence.specs.Token.{Token, num, str, spell, Word, ByteString}
 
 mutual

@@ -1,5 +1,5 @@
 -- The stack of what is pending: two numbers for each run, a sort and how many of it, the top one last.
-use Rattle.std.specs.Prelude.{ℕ, zero, suc, ◌+◌, ◌*◌, List, [], ◌∷◌, ◌++◌, slice_index}
+use Rattle.std.specs.Prelude.{ℕ, zero, suc, ◌+◌, ◌*◌, List, [], ◌++◌, slice_index}
 use Rattle.schema.specs.Grammar.{Sort, a_rule, a_schema, a_group, a_field, many}
 
 abbrev pub number_sort : ℕ → Sort

@@ -1,5 +1,5 @@
 -- The table of rules: a row of numbers for each node, in the order of their bytes, each parent before its children.
-use Rattle.std.specs.Prelude.{◌≡◌, ℕ, zero, suc, ◌+◌, ◌-◌, ◌*◌, ◌<◌, ◌⊎◌, List, [], ◌∷◌, ◌++◌, length, take, drop, Some, None, Option, ◌≢◌, slice_index}
+use Rattle.std.specs.Prelude.{◌≡◌, ℕ, zero, suc, ◌+◌, ◌*◌, ◌<◌, ◌⊎◌, List, [], ◌∷◌, ◌++◌, length, take, drop, Some, None, Option, ◌≢◌, slice_index}
 use Rattle.sequence.specs.Token.{Token, num, str}
 use Rattle.sequence.specs.Reading.{SpelledAt}
 use Rattle.schema.specs.declared.nodes.Node.{Node}
@@ -16,11 +16,7 @@ row_says bs opcode (suc (suc zero)) a b = num opcode ∷ num a ∷ num b ∷ []
 row_says bs opcode (suc (suc (suc n))) a b = num opcode ∷ str (take b (drop a bs)) ∷ []
 
 abbrev pub row_at : List ℕ → List ℕ → ℕ → List Token
-row_at bs table i = row_says bs (slice_index table (5 * i)) (slice_index table (5 * i + 1)) (slice_index table (5 * i + 2)) (slice_index table (5 * i + 3))
-
--- and its link: the row that comes after its node and all that is in it
-abbrev pub link : List ℕ → ℕ → ℕ
-link table i = slice_index table (5 * i + 4)
+row_at bs table i = row_says bs (slice_index table (4 * i)) (slice_index table (4 * i + 1)) (slice_index table (4 * i + 2)) (slice_index table (4 * i + 3))
 
 unfoldable pub rows : List ℕ → List ℕ → ℕ → List Token
 rows bs table zero = []
@@ -31,16 +27,14 @@ abbrev pub RowOf : Entry → ℕ → Row → Type 0
 RowOf e next r = (bs : List ℕ) (at : ℕ) → SpelledAt (form_tokens e.opcode e.form) bs at next → row_says bs r.opcode r.form r.first r.second ≡ form_tokens e.opcode e.form
 
 -- one row more, and those before it as they were
-pub record RowWritten (old : List ℕ) (i : ℕ) (x : Node) (next inner : ℕ) (new : List ℕ) : Type 0 where
-  pub before : (k : ℕ) → k < 5 * i → slice_index new k ≡ slice_index old k
-  pub says : (bs : List ℕ) (at : ℕ) → SpelledAt (own_tokens x) bs at next → row_at bs new i ≡ own_tokens x
-  pub linked : link new i ≡ inner
+abbrev pub RowWritten : List ℕ → ℕ → Node → ℕ → List ℕ → Type 0
+RowWritten old i x next new = (bs : List ℕ) (at : ℕ) → SpelledAt (own_tokens x) bs at next → rows bs new (i + 1) ≡ rows bs old i ++ own_tokens x
 
 abbrev pub EntryAt : List ℕ → List ℕ → ℕ → Option Entry → Type 0
 EntryAt bs table i (Some e) = form_tokens e.opcode e.form ≡ row_at bs table i
-EntryAt bs table i None = length table < 5 * i + 5
+EntryAt bs table i None = length table < 4 * i + 4
 
 -- the node of a sort that a row is; or none, where the table ends before, or no node of that sort is written like that
 abbrev pub Seen : {A : Type 0} → (A → Node) → List ℕ → List ℕ → ℕ → Option A → Type 0
 Seen node bs table i (Some x) = own_tokens (node x) ≡ row_at bs table i
-Seen {A} node bs table i None = (length table < 5 * i + 5) ⊎ ((x : A) → own_tokens (node x) ≢ row_at bs table i)
+Seen {A} node bs table i None = (length table < 4 * i + 4) ⊎ ((x : A) → own_tokens (node x) ≢ row_at bs table i)

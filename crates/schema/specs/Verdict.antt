@@ -1,5 +1,5 @@
 -- What reading rules tells.
-use Rattle.std.specs.Prelude.{◌≡◌, ℕ, zero, suc, ◌+◌, ◌*◌, ◌<◌, ◌≤◌, ◌⊎◌, List, [], ◌∷◌, ◌++◌, length, take, Ok, Err, Result}
+use Rattle.std.specs.Prelude.{◌≡◌, ℕ, suc, ◌+◌, ◌*◌, ◌<◌, ◌≤◌, ◌⊎◌, List, [], ◌∷◌, length, take, Ok, Err, Result}
 use Rattle.cbor.specs.Prefix.{Begins, Any}
 use Rattle.sequence.specs.Token.{Token, num}
 use Rattle.sequence.specs.Grammar.{Takes}
@@ -8,14 +8,15 @@ use Rattle.schema.specs.declared.reading.Progress.{Progress}
 use Rattle.schema.specs.declared.reading.NoRules.{NoRules}
 use Rattle.schema.specs.declared.reading.NoRules.TheVariants.{TooLittleLent, TooLarge, Wrong}
 use Rattle.schema.specs.declared.reading.Rules.{Rules}
-use Rattle.schema.specs.Rules.{Schema, AreRules, Writable, write, parts}
-use Rattle.schema.specs.declared.nodes.Node.{Node}
-use Rattle.schema.specs.Grammar.{Sort, the_rules, a_rule, many, grammar, parts_in}
-use Rattle.schema.specs.Nodes.{own_tokens, inner_of_node, inside}
-use Rattle.schema.specs.Reading.{OfSort, Whole}
+use Rattle.schema.specs.Rules.{Schema, tokens, AreRules, Writable, write, parts}
+use Rattle.schema.specs.Grammar.{Sort, the_rules, grammar, parts_in}
+use Rattle.schema.specs.Reading.{Whole}
 use Rattle.schema.specs.Stacks.{pending}
-use Rattle.schema.specs.Table.{row_at, link, rows}
-use Rattle.schema.specs.Layout.{SchemasAt}
+use Rattle.schema.specs.Table.{rows}
+
+-- the table's rows say what rules are written in
+abbrev pub Tabled : List Schema → List ℕ → List ℕ → ℕ → Type 0
+Tabled ss bs table nodes = tokens ss ≡ num (length ss) ∷ rows bs table nodes
 
 -- more than 8,192 parts stand before the first byte that isn't rules, in whole nodes
 abbrev pub HasTooMany : List ℕ → Type 0
@@ -28,20 +29,7 @@ pub record WrongAt (bs : List ℕ) (place : ℕ) : Type 0 where
   pub ends : place < length bs → Begins (Any AreRules) (take (suc place) bs) → ⊥
   pub short : place ≡ length bs → Any AreRules bs → ⊥
 
--- a row is a node of a sort, and has how many are in it in place of the link
-pub record NodeRow (bs table : List ℕ) (i : ℕ) (s : Sort) (x : Node) : Type 0 where
-  pub sort : OfSort s x
-  pub says : row_at bs table i ≡ own_tokens x
-  pub inner : link table i ≡ (inner_of_node x).1
-  pub takes : (ss : List Sort) → Takes grammar (s ∷ ss) (own_tokens x) (inside x ++ ss)
-
--- so many rows, from one on, lead from what is pending to what is then pending
-unfoldable pub Leads : List ℕ → List ℕ → ℕ → ℕ → List Sort → List Sort → Type 0
-Leads bs table i zero ss rest = ss ≡ rest
-Leads bs table i (suc n) [] rest = ⊥
-Leads bs table i (suc n) (s ∷ ss) rest = (x : Node) × NodeRow bs table i s x × Leads bs table (i + 1) n (inside x ++ ss) rest
-
--- how far reading has come: the tokens so far lead to what is pending on the stack, complete so many parts, and are what the table's rows say, each a node of what was pending
+-- how far reading has come: the tokens so far lead to what is pending on the stack, complete so many parts, and are what the table says
 pub record Reached (bs stack table : List ℕ) (s : Progress) : Type 0 where
   pub few : s.parts ≤ 8192
   pub deep : s.depth ≤ s.parts + 1
@@ -52,7 +40,6 @@ pub record Reached (bs stack table : List ℕ) (s : Progress) : Type 0 where
   pub listed : s.nodes ≤ s.parts
   pub count : ℕ
   pub tabled : read ≡ num count ∷ rows bs table s.nodes
-  pub led : Leads bs table 0 s.nodes (many count a_rule) (pending stack s.depth)
 
 abbrev pub Refused : List ℕ → NoRules → Type 0
 Refused bs TooLittleLent = ⊥
@@ -64,14 +51,14 @@ abbrev pub Advances : List ℕ → Progress → List ℕ → List ℕ → Result
 Advances bs s stack table (Ok t) = Reached bs stack table t × (2 * s.at + t.depth < 2 * t.at + s.depth)
 Advances bs s stack table (Err e) = Refused bs e
 
--- all of them: just those rules stand in the table, from its first row to its last
+-- all of them: the table says just the tokens that the rules are
 abbrev pub RulesAt : List ℕ → List ℕ → Result Rules NoRules → Type 0
-RulesAt bs table (Ok r) = ((ss : List Schema) × AreRules ss bs × (r.parts ≡ parts ss) × SchemasAt bs table ss 0 r.nodes) × (r.nodes ≤ r.parts) × (r.parts ≤ 8192) × (HasTooMany bs → ⊥)
+RulesAt bs table (Ok r) = ((ss : List Schema) × AreRules ss bs × (r.parts ≡ parts ss) × Tabled ss bs table r.nodes) × (r.nodes ≤ r.parts) × (r.parts ≤ 8192) × (HasTooMany bs → ⊥)
 RulesAt bs table (Err e) = Refused bs e
 
 -- with so much lent for the stack and for the table
 abbrev pub Enough : ℕ → ℕ → Type 0
-Enough stack table = (16388 ≤ stack) × (40960 ≤ table)
+Enough stack table = (16388 ≤ stack) × (32768 ≤ table)
 
 abbrev pub RulesTold : Type 0 → List ℕ → List ℕ → Result Rules NoRules → Type 0
 RulesTold Enough bs table (Ok r) = Enough × RulesAt bs table (Ok r)
@@ -87,9 +74,9 @@ Readable bs = Any AreRules bs ⊎ HasTooMany bs
 abbrev pub Malformed : List ℕ → ℕ → Type 0
 Malformed bs place = WrongAt bs place × (HasTooMany bs → ⊥)
 
--- rules that were written are read as themselves, with their parts, into the table
+-- rules that were written are read as themselves, with their parts
 abbrev pub IsRead : List Schema → List ℕ → List ℕ → Result Rules NoRules → Type 0
-IsRead ss bs table (Ok r) = (r.parts ≡ parts ss) × SchemasAt bs table ss 0 r.nodes
+IsRead ss bs table (Ok r) = (r.parts ≡ parts ss) × Tabled ss bs table r.nodes
 IsRead ss bs table (Err e) = ⊥
 
 abbrev pub ReadsBack : Type 0 → List ℕ → List ℕ → Result Rules NoRules → Type 0

@@ -1,6 +1,6 @@
 // Nodes as they are written: an opcode, and what stands after it.
 ghost use Rattle.std.specs.Prelude.{◌≡◌};
-ghost use Rattle.schema.specs.Entries.{EntryOf, ReadAs};
+ghost use Rattle.schema.specs.Entries.{EntryOf};
 
 use crate::nodes::{Field, Group, Node, Schema};
 
@@ -53,47 +53,4 @@ pub(crate) fn entry_of<'a>(node: Node<'a>) -> Entry<'a>
         Node::OfField(Field::Others) => (2, Form::Bare),
     };
     Entry { opcode, form }
-}
-
-pub(crate) fn schema_of<'a>(entry: Entry<'a>) -> Option<Schema<'a>>
-    ensures { ReadAs Node.OfSchema entry.entry result }
-{
-    match (entry.opcode, entry.form) {
-        (0, Form::Bare) => Some(Schema::Any),
-        (1, Form::Numbers(low, high)) => Some(Schema::Unsigned(low, high)),
-        (2, Form::Numbers(low, high)) => Some(Schema::Negative(low, high)),
-        (3, Form::Numbers(low, high)) => Some(Schema::ByteLength(low, high)),
-        (4, Form::Numbers(low, high)) => Some(Schema::TextLength(low, high)),
-        (5, Form::String(item)) => Some(Schema::Literal(item)),
-        (6, Form::Bare) => Some(Schema::Choice),
-        (7, Form::Bare) => Some(Schema::Array),
-        (8, Form::Number(count)) => Some(Schema::Map(count)),
-        (9, Form::Number(number)) => Some(Schema::Tag(number)),
-        (10, Form::Number(number)) => Some(Schema::Rule(number)),
-        _ => None,
-    }
-}
-
-pub(crate) fn group_of(entry: Entry<'_>) -> Option<Group>
-    ensures { ReadAs Node.OfGroup entry.entry result }
-{
-    match (entry.opcode, entry.form) {
-        (0, Form::Bare) => Some(Group::Empty),
-        (1, Form::Bare) => Some(Group::One),
-        (2, Form::Bare) => Some(Group::Sequence),
-        (3, Form::Bare) => Some(Group::FirstOf),
-        (4, Form::Numbers(low, high)) => Some(Group::Repeat(low, high)),
-        _ => None,
-    }
-}
-
-pub(crate) fn field_of<'a>(entry: Entry<'a>) -> Option<Field<'a>>
-    ensures { ReadAs Node.OfField entry.entry result }
-{
-    match (entry.opcode, entry.form) {
-        (0, Form::String(key)) => Some(Field::Required(key)),
-        (1, Form::String(key)) => Some(Field::Optional(key)),
-        (2, Form::Bare) => Some(Field::Others),
-        _ => None,
-    }
 }

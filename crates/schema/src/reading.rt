@@ -9,7 +9,7 @@ ghost use Rattle.schema.specs.Verdict.{Reached, Advances, Enough, RulesAt, Rules
 use crate::nodes::{
     Field, Group, NextNode, Node, Run, Schema, Sort, read_field, read_group, read_schema,
 };
-use crate::table::{link_rows, write_row};
+use crate::table::write_row;
 use cbor::reading::Stop;
 use sequence::reading::read_number;
 
@@ -20,7 +20,7 @@ pub const MOST_PARTS: usize = 8192;
 pub const STACK: usize = 16388;
 
 // How many numbers the table takes: a row for each node, of which there are no more than parts.
-pub const TABLE: usize = 40960;
+pub const TABLE: usize = 32768;
 
 // Rules that were read: how many nodes the table has, and how many parts they are.
 #[derive(Clone, Copy)]
@@ -178,9 +178,8 @@ fn advance(
     if parts > MOST_PARTS {
         return Err(NoRules::TooLarge);
     }
-    let run = in_node_of(read.node);
-    push(stack, progress.depth, run);
-    write_row(table, progress.nodes, read.node, read.next, run.count);
+    push(stack, progress.depth, in_node_of(read.node));
+    write_row(table, progress.nodes, read.node, read.next);
     Ok(Progress {
         at: read.next,
         depth: progress.depth + 1,
@@ -214,7 +213,6 @@ fn read_all(bytes: &[u8], stack: &mut [u64], table: &mut [u64]) -> Result<Rules,
     if progress.at < bytes.len() {
         return Err(NoRules::Wrong(progress.at));
     }
-    link_rows(table, progress.nodes);
     Ok(Rules {
         nodes: progress.nodes,
         parts: progress.parts,

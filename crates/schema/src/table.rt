@@ -1,15 +1,12 @@
 // The table of rules in lent numbers: a row for each node, in the order of their bytes.
 ghost use Rattle.std.specs.Prelude.{◌≡◌, ◌+◌, ◌*◌, ◌≤◌, length, take, drop};
-ghost use Rattle.schema.specs.Table.{link, RowOf, RowWritten, EntryAt, Seen};
-ghost use Rattle.schema.specs.Links.{hops, Complete, Linked};
-ghost use Rattle.schema.specs.Layout.{SchemaAt, GroupAt, FieldAt};
-ghost use Rattle.schema.specs.Roots.{SchemaRoot, GroupRoot, FieldRoot, Shows};
+ghost use Rattle.schema.specs.Table.{RowOf, RowWritten, EntryAt, Seen};
 
-use crate::entries::{Entry, Form, entry_of, field_of, group_of, schema_of};
+use crate::entries::{Entry, Form, entry_of};
 use crate::nodes::{Field, Group, Node, Schema};
 
-// How many numbers a row takes: the opcode, its form, two numbers, or where a string stands and how long it is, and the link.
-pub const ROW: usize = 5;
+// How many numbers a row takes: the opcode, its form, and two numbers, or where a string stands and how long it is.
+pub const ROW: usize = 4;
 
 #[derive(Clone, Copy)]
 struct Row {
@@ -43,51 +40,15 @@ fn row_of(entry: Entry<'_>, next: usize) -> Row
     }
 }
 
-// In place of the link stands how many nodes are in it, until all are written.
-pub(crate) fn write_row(table: &mut [u64], index: usize, node: Node<'_>, next: usize, inner: u64)
-    requires { 5 * index + 5 ≤ length table.old }
-    ensures { RowWritten table.old index node.entry next inner table.new }
+pub(crate) fn write_row(table: &mut [u64], index: usize, node: Node<'_>, next: usize)
+    requires { 4 * index + 4 ≤ length table.old }
+    ensures { RowWritten table.old index node.entry next table.new }
 {
     let row = row_of(entry_of(node), next);
     table[ROW * index] = row.opcode;
     table[ROW * index + 1] = row.form;
     table[ROW * index + 2] = row.first;
     table[ROW * index + 3] = row.second;
-    table[ROW * index + 4] = inner;
-}
-
-// The link of a row: the row that comes after its node and all that is in it. 0 past the table's end.
-pub fn link_at(table: &[u64], index: usize) -> usize
-    ensures { result ≡ link table.now index }
-{
-    if index >= table.len() / ROW {
-        return 0;
-    }
-    table[ROW * index + 4] as usize
-}
-
-// What will be the link of a row, by those of the rows after it.
-fn past(table: &[u64], index: usize) -> usize
-    requires { 5 * index + 5 ≤ length table.now }
-    ensures { result ≡ hops table.now (link table.now index) (index + 1) }
-{
-    let mut next = index + 1;
-    for _ in 0..link_at(table, index) {
-        next = link_at(table, next);
-    }
-    next
-}
-
-// Puts the links into a table that has how many nodes are in each.
-pub(crate) fn link_rows(table: &mut [u64], nodes: usize)
-    requires room { 5 * nodes ≤ length table.old }
-    requires complete { Complete table.old nodes }
-    ensures { Linked table.old nodes table.new }
-{
-    for index in (0..nodes).rev() {
-        let next = past(table, index);
-        table[ROW * index + 4] = next as u64;
-    }
 }
 
 // As much of a part as there is.
@@ -120,25 +81,47 @@ fn entry_at<'a>(bytes: &'a [u8], table: &[u64], index: usize) -> Option<Entry<'a
 
 // The schema at a row of a table; a literal is a part of the bytes of the rules.
 pub fn schema_at<'a>(bytes: &'a [u8], table: &[u64], index: usize) -> Option<Schema<'a>>
-    ensures seen { Seen Node.OfSchema bytes.now table.now index result }
-    ensures root { Shows (SchemaAt bytes.now table.now) SchemaRoot index result }
+    ensures { Seen Node.OfSchema bytes.now table.now index result }
 {
     let entry = entry_at(bytes, table, index)?;
-    schema_of(entry)
+    match (entry.opcode, entry.form) {
+        (0, Form::Bare) => Some(Schema::Any),
+        (1, Form::Numbers(low, high)) => Some(Schema::Unsigned(low, high)),
+        (2, Form::Numbers(low, high)) => Some(Schema::Negative(low, high)),
+        (3, Form::Numbers(low, high)) => Some(Schema::ByteLength(low, high)),
+        (4, Form::Numbers(low, high)) => Some(Schema::TextLength(low, high)),
+        (5, Form::String(item)) => Some(Schema::Literal(item)),
+        (6, Form::Bare) => Some(Schema::Choice),
+        (7, Form::Bare) => Some(Schema::Array),
+        (8, Form::Number(count)) => Some(Schema::Map(count)),
+        (9, Form::Number(number)) => Some(Schema::Tag(number)),
+        (10, Form::Number(number)) => Some(Schema::Rule(number)),
+        _ => None,
+    }
 }
 
 pub fn group_at(bytes: &[u8], table: &[u64], index: usize) -> Option<Group>
-    ensures seen { Seen Node.OfGroup bytes.now table.now index result }
-    ensures root { Shows (GroupAt bytes.now table.now) GroupRoot index result }
+    ensures { Seen Node.OfGroup bytes.now table.now index result }
 {
     let entry = entry_at(bytes, table, index)?;
-    group_of(entry)
+    match (entry.opcode, entry.form) {
+        (0, Form::Bare) => Some(Group::Empty),
+        (1, Form::Bare) => Some(Group::One),
+        (2, Form::Bare) => Some(Group::Sequence),
+        (3, Form::Bare) => Some(Group::FirstOf),
+        (4, Form::Numbers(low, high)) => Some(Group::Repeat(low, high)),
+        _ => None,
+    }
 }
 
 pub fn field_at<'a>(bytes: &'a [u8], table: &[u64], index: usize) -> Option<Field<'a>>
-    ensures seen { Seen Node.OfField bytes.now table.now index result }
-    ensures root { Shows (FieldAt bytes.now table.now) FieldRoot index result }
+    ensures { Seen Node.OfField bytes.now table.now index result }
 {
     let entry = entry_at(bytes, table, index)?;
-    field_of(entry)
+    match (entry.opcode, entry.form) {
+        (0, Form::String(key)) => Some(Field::Required(key)),
+        (1, Form::String(key)) => Some(Field::Optional(key)),
+        (2, Form::Bare) => Some(Field::Others),
+        _ => None,
+    }
 }

@@ -1,19 +1,17 @@
 // Goes through a table on standard input, and compares what is answered with what stands beside it.
 //
-// A line is a request in hex digits, the sign =>, and its answer; or a word, bytes, and what is told of them: rules, item, order of two, or text
-// with an announced length before the bytes.
+// A line is a request in hex digits, the sign =>, and its answer; or the word rules, the bytes of rules, and what reading them tells.
 // What follows a # is a comment.
 
 #![tactic(auto)]
 
 mod hex;
-mod parts;
 
 use answer::{LENT, answer};
 use anyhow::anyhow;
 use schema::nodes::Node;
 use schema::reading::{NoRules, STACK, read_rules};
-use schema::table::{field_at, group_at, link_at, schema_at};
+use schema::table::{field_at, group_at, schema_at};
 use schema::writing::write_node;
 use sequence::reading::read_number;
 use std::alloc::Global;
@@ -56,13 +54,9 @@ fn without_comment(line: &str) -> &str {
 }
 
 fn told(heap: Global, asked: &str, lent: &mut [u64]) -> anyhow::Result<String> {
-    let (word, rest) = asked.trim().split_once(' ').unwrap_or((asked.trim(), ""));
-    match word {
-        "rules" => rules_told(heap, hex::parse(heap, rest)?.as_slice(), lent),
-        "text" => parts::text_told(heap, rest),
-        "item" => parts::item_told(heap, rest),
-        "order" => parts::order_told(heap, rest),
-        _ => answer_told(heap, hex::parse(heap, asked)?.as_slice(), lent),
+    match asked.trim().strip_prefix("rules") {
+        Some(rules) => rules_told(heap, hex::parse(heap, rules)?.as_slice(), lent),
+        None => answer_told(heap, hex::parse(heap, asked)?.as_slice(), lent),
     }
 }
 
@@ -100,8 +94,7 @@ fn node_at<'a>(bytes: &'a [u8], table: &[u64], index: usize) -> Option<Node<'a>>
     Some(Node::OfField(field))
 }
 
-// Whether the nodes of the table, written one after another, are the bytes that follow the number of rules, and its links lead on, those of
-// the rules to the end.
+// Whether the nodes of the table, written one after another, are the bytes that follow the number of rules.
 fn writes_back(heap: Global, bytes: &[u8], table: &[u64], nodes: usize) -> anyhow::Result<bool> {
     let Ok(count) = read_number(bytes, 0) else {
         return Ok(false);
@@ -109,10 +102,6 @@ fn writes_back(heap: Global, bytes: &[u8], table: &[u64], nodes: usize) -> anyho
     let mut out = vec![in heap; 0u8; bytes.len()]?;
     let mut at = count.next;
     for index in 0..nodes {
-        let link = link_at(table, index);
-        if link <= index || link > nodes {
-            return Ok(false);
-        }
         let Some(node) = node_at(bytes, table, index) else {
             return Ok(false);
         };
@@ -121,18 +110,5 @@ fn writes_back(heap: Global, bytes: &[u8], table: &[u64], nodes: usize) -> anyho
         };
         at = next;
     }
-    Ok(
-        at == bytes.len()
-            && out.as_slice().get(count.next..) == bytes.get(count.next..)
-            && after_rules(table, count.argument) == nodes,
-    )
-}
-
-// The row to which the links of so many rules lead, from the first on.
-fn after_rules(table: &[u64], rules: u64) -> usize {
-    let mut row = 0;
-    for _ in 0..rules {
-        row = link_at(table, row);
-    }
-    row
+    Ok(at == bytes.len() && out.as_slice().get(count.next..) == bytes.get(count.next..))
 }

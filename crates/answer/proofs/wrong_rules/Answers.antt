@@ -1,4 +1,4 @@
-use Rattle.std.proofs.Common.{◌≡◌, length, Err, ap, subst, arith}
+use Rattle.std.proofs.Common.{Err, subst, arith}
 use Rattle.schema.specs.Verdict.{RulesAt}
 use Rattle.schema.specs.declared.reading.NoRules.TheVariants.{Wrong}
 use Rattle.answer.proofs.Tells.{rules_within}

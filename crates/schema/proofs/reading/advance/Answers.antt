@@ -1,4 +1,4 @@
-use Rattle.std.proofs.Common.{◌≡◌, ◌+◌, ◌-◌, ◌<◌, ◌≤◌, ◌∷◌, sym, refl, ap, ◌∙◌, subst, arith}
+use Rattle.std.proofs.Common.{◌≡◌, ◌+◌, ◌-◌, ◌∷◌, subst, arith}
 use Rattle.schema.specs.Nodes.{sort_of}
 use Rattle.schema.specs.Stacks.{pending}
 use Rattle.schema.proofs.Stacks.{emptied}
@@ -27,4 +27,4 @@ returns c =
     let d : c.args.progress.depth - 1 + 1 ≡ c.args.progress.depth = omega (arith, c.requires.pending) in
     let e : pending c.args.stack.now c.args.progress.depth ≡ sort_of c.take_one-sort.result ∷ pending c.take_one-sort.new.stack c.args.progress.depth = subst (λ k. pending c.args.stack.now k ≡ sort_of c.take_one-sort.result ∷ pending c.take_one-sort.new.stack k) d c.take_one-sort.ensures in
     let n = c.in-Ok.ensures.1 in
-    (one_node c.args.bytes.now c.args.stack.now c.args.table.now c.args.progress c.requires.reached c.take_one-sort.new.stack c.take_one-sort.result e c.in-Ok.read c.in-Ok.ensures c.push.new.stack c.write_row.new.table c.in_node_of-run.result c.saturating_add-parts.result c.write_row.ensures c.in_node_of-run.ensures c.push.ensures (omega (arith, c.saturating_add-parts.ensures, c.parts_of.ensures, c.if-parts-gt-MOST_PARTS.false)) (omega arith), omega arith)
+    (one_node c.args.bytes.now c.args.stack.now c.args.table.now c.args.progress c.requires.reached c.take_one-sort.new.stack c.take_one-sort.result e c.in-Ok.read c.in-Ok.ensures c.push.new.stack c.write_row.new.table c.in_node_of.result c.saturating_add-parts.result c.write_row.ensures c.in_node_of.ensures c.push.ensures (omega (arith, c.saturating_add-parts.ensures, c.parts_of.ensures, c.if-parts-gt-MOST_PARTS.false)) (omega arith), omega arith)

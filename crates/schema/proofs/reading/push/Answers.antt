@@ -1,4 +1,4 @@
-use Rattle.std.proofs.Common.{◌≡◌, ◌++◌, ap, ◌∙◌}
+use Rattle.std.proofs.Common.{◌++◌, ap, ◌∙◌}
 use Rattle.schema.specs.Grammar.{many}
 use Rattle.schema.specs.Stacks.{pending}
 use Rattle.schema.proofs.Stacks.{pushed}

@@ -1,6 +1,6 @@
 use Rattle.std.proofs.Common.{arith}
 use Rattle.schema.specs.Stacks.{pending}
-use Rattle.schema.proofs.Progresses.{no_number, begun, trailing, all_read, whole}
+use Rattle.schema.proofs.Progresses.{no_number, begun, trailing, whole}
 use Rattle.schema.proofs.reading.read_all.Goals as goal
 
 pub returns-in-Err : goal.returns-in-Err
@@ -13,11 +13,5 @@ loop-progress-init c = begun c.args.bytes.now c.push.new.stack c.args.table.now 
 pub returns-then-progress-bytes : goal.returns-then-progress-bytes
 returns-then-progress-bytes c = trailing c.args.bytes.now c.loop-progress.stack c.loop-progress.table c.loop-progress.progress c.loop-progress.invariant (omega arith) (omega arith)
 
-pub link_rows-requires : goal.link_rows-requires
-link_rows-requires c = record {
-  room = (let z = c.loop-progress.invariant in omega (arith, z.listed, z.few));
-  complete = all_read c.args.bytes.now c.loop-progress.stack c.loop-progress.table c.loop-progress.progress c.loop-progress.invariant (omega arith);
-}
-
 pub returns : goal.returns
-returns c = whole c.args.bytes.now c.loop-progress.stack c.loop-progress.table c.loop-progress.progress c.loop-progress.invariant (omega arith) c.link_rows.new.table c.link_rows.ensures (omega arith)
+returns c = whole c.args.bytes.now c.loop-progress.stack c.loop-progress.table c.loop-progress.progress c.loop-progress.invariant (omega arith) (omega arith)

@@ -1,4 +1,4 @@
-use Rattle.std.proofs.Common.{◌≡◌, sym, subst, inl, inr}
+use Rattle.std.proofs.Common.{sym, subst, inl, inr}
 use Rattle.schema.specs.Nodes.{sort_of}
 use Rattle.schema.specs.Reading.{NodeAt}
 use Rattle.schema.proofs.Places.{rule_node}

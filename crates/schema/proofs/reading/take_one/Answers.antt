@@ -1,4 +1,4 @@
-use Rattle.std.proofs.Common.{◌≡◌, ◌+◌, ◌-◌, ◌*◌, ◌∷◌, get_or, set, sym, ap, ◌∙◌}
+use Rattle.std.proofs.Common.{◌+◌, ◌-◌, ◌*◌, ◌∷◌, get_or, set, sym, ap, ◌∙◌}
 use Rattle.schema.specs.Stacks.{pending}
 use Rattle.schema.proofs.Stacks.{taken}
 use Rattle.schema.proofs.reading.take_one.Goals as goal
