@@ -75,6 +75,9 @@ head_not_empty m n =
     (λ _. cond_both (ltb n 65536) ((32 * m + 25) ∷ to_bytes 2 n) _ P (λ _. omega arith)
     (λ _. cond_both (ltb n 4294967296) ((32 * m + 26) ∷ to_bytes 4 n) ((32 * m + 27) ∷ to_bytes 8 n) P (λ _. omega arith) (λ _. omega arith))))
 
+pub head_some : (m n : ℕ) → n < 18446744073709551616 → 0 < length (head m n)
+head_some m n h = head_not_empty m n
+
 pub head_bytes : (m n : ℕ) → m < 8 → n < 18446744073709551616 → all_bytes (head m n) ≡ true
 unfolding all_bytes
 head_bytes m n h l = let (s, w, p, z) = head_shape m n l in ap all_bytes p ∙ and_from (ltb (32 * m + s) 256) (all_bytes (to_bytes w n)) (lt-ltb (32 * m + s) 256 (omega arith)) (to_bytes_bytes w n)
@@ -160,7 +163,7 @@ module _ (m b : ℕ) (f : Form) (major : b / 32 ≡ m) (form : IsForm (b % 32) f
       )
 
   starts_so : (u rest r : List ℕ) → Any (HeadOf m) u → b ∷ r ≡ u ++ rest → (t : List ℕ) × (length t ≡ f.width) × (f.least ≤ of_bytes (take f.front t)) × (r ≡ t ++ rest)
-  starts_so [] rest r (n, (e, h)) g = absurd (omega (arith, ap length e, head_not_empty m n))
+  starts_so [] rest r (n, (e, h)) g = absurd (omega (arith, ap length e, head_some m n h))
   starts_so (c ∷ t) rest r (n, h) g =
       let x : b ≡ c = cc in
       let y : r ≡ t ++ rest = cc in

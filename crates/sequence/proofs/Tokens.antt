@@ -9,7 +9,7 @@ use Rattle.cbor.specs.Prefix.{Any, PrefixFree, Then, Stops, StopsAt, StandsAt}
 use Rattle.cbor.specs.Reading.{HeadOf, HeadAt}
 use Rattle.cbor.proofs.Numbers.{bytes_append, bytes_take, bytes_drop, bytes_replicate}
 use Rattle.cbor.proofs.Words.{free_two, stops_same, stops_lower}
-use Rattle.cbor.proofs.Heads.{head_free, head_not_empty, head_bytes}
+use Rattle.cbor.proofs.Heads.{head_free, head_some, head_bytes}
 use Rattle.cbor.proofs.Places.{part_more, part_length, at_first, stops_at_first, stops_at_later}
 use Rattle.sequence.specs.Token.{Token, num, str, token_bytes, Word, Shape, opcode, number, string, Suits, TokenOf}
 use Rattle.sequence.specs.Reading.{TokenAt, NumberAt}
@@ -151,9 +151,9 @@ string_there bs content at mid n a (h, k, (e, w)) i l c =
     ((omega arith, omega arith, (part_more bs at mid (mid + n) h (omega arith) ∙ (λ i. (e ∙ ap (head 2) (sym y)) i ++ sym c i), (ap all_bytes c ∙ bytes_take (mid + n - mid) (drop mid bs) (bytes_drop mid bs a), omega arith))), omega arith)
 
 pub token_some : (s : Shape) (t : Token) (u : List ℕ) → TokenOf s t u → 0 < length u
-token_some (opcode k) (num n) u (e, (h, l)) = omega (arith, ap length e, head_not_empty 0 n)
-token_some number (num n) u (e, l) = omega (arith, ap length e, head_not_empty 0 n)
-token_some string (str bs) u (e, l) = omega (arith, ap length e, length-append (head 2 (length bs)) bs, head_not_empty 2 (length bs))
+token_some (opcode k) (num n) u (e, (h, l)) = omega (arith, ap length e, head_some 0 n (omega arith))
+token_some number (num n) u (e, l) = omega (arith, ap length e, head_some 0 n l)
+token_some string (str bs) u (e, l) = omega (arith, ap length e, length-append (head 2 (length bs)) bs, head_some 2 (length bs) l.1)
 token_some (opcode k) (str bs) u (e, l) = absurd l
 token_some number (str bs) u (e, l) = absurd l
 token_some string (num n) u (e, l) = absurd l
