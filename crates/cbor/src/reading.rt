@@ -90,8 +90,8 @@ fn number(bytes: &[u8], at: usize, width: usize) -> u64
 // A head whose argument stands after its first byte.
 fn long_head(bytes: &[u8], at: usize, major: Major) -> Result<Head, Stop>
     requires at_in_bounds { at < length bytes.now }
-    requires at_value { slice_index bytes.now at / 32 ≡ major_number major }
-    requires bound { 24 ≤ slice_index bytes.now at % 32 }
+    requires same_major { slice_index bytes.now at / 32 ≡ major_number major }
+    requires long_form { 24 ≤ slice_index bytes.now at % 32 }
     ensures { HeadAt (major_number major) bytes.now at result }
 {
     let Some(form) = form_of(bytes[at] & 31) else {

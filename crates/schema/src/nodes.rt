@@ -87,8 +87,8 @@ fn read_range(bytes: &[u8], at: usize) -> Result<Range, Stop>
 }
 
 fn ranged<'a>(opcode: u64, low: u64, high: u64) -> Schema<'a>
-    requires le_opcode { 1 ≤ opcode }
-    requires opcode_bound { opcode ≤ 4 }
+    requires least { 1 ≤ opcode }
+    requires most { opcode ≤ 4 }
     ensures { Ranged opcode low high result }
 {
     match opcode {
@@ -100,8 +100,8 @@ fn ranged<'a>(opcode: u64, low: u64, high: u64) -> Schema<'a>
 }
 
 fn numbered<'a>(opcode: u64, number: u64) -> Schema<'a>
-    requires le_opcode { 8 ≤ opcode }
-    requires opcode_bound { opcode ≤ 10 }
+    requires least { 8 ≤ opcode }
+    requires most { opcode ≤ 10 }
     ensures { Numbered opcode number result }
 {
     match opcode {
@@ -112,8 +112,8 @@ fn numbered<'a>(opcode: u64, number: u64) -> Schema<'a>
 }
 
 fn read_ranged<'a>(bytes: &'a [u8], opcode: Head) -> Result<NextNode<'a>, Stop>
-    requires le_argument { 1 ≤ opcode.argument }
-    requires argument_bound { opcode.argument ≤ 4 }
+    requires least { 1 ≤ opcode.argument }
+    requires most { opcode.argument ≤ 4 }
     ensures { RestAt a_schema opcode.argument bytes.now opcode.next result }
 {
     let range = read_range(bytes, opcode.next)?;
@@ -134,8 +134,8 @@ fn read_literal<'a>(bytes: &'a [u8], at: usize) -> Result<NextNode<'a>, Stop>
 }
 
 fn read_numbered<'a>(bytes: &'a [u8], opcode: Head) -> Result<NextNode<'a>, Stop>
-    requires le_argument { 8 ≤ opcode.argument }
-    requires argument_bound { opcode.argument ≤ 10 }
+    requires least { 8 ≤ opcode.argument }
+    requires most { opcode.argument ≤ 10 }
     ensures { RestAt a_schema opcode.argument bytes.now opcode.next result }
 {
     let number = read_number(bytes, opcode.next)?;

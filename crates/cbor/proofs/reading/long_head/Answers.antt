@@ -21,7 +21,7 @@ returns-then-left-form c =
     let at = c.args.at in
     let f = c.in-Some.form in
     let s : IsForm (get_or bs at 0 % 32) f = rw (and_mask (get_or bs at 0) 5) at c.in-Some.ensures in
-    cut_head (major_number c.args.major) bs at f (omega arith) c.requires.at_value s (bytes_typed bs (λ i. omega (arith, c.type_inv.bytes i))) c.saturating_add.result (omega (arith, c.saturating_add.ensures)) (omega arith) (λ h. absurd (omega arith))
+    cut_head (major_number c.args.major) bs at f (omega arith) c.requires.same_major s (bytes_typed bs (λ i. omega (arith, c.type_inv.bytes i))) c.saturating_add.result (omega (arith, c.saturating_add.ensures)) (omega arith) (λ h. absurd (omega arith))
 
 pub returns-then-number-form : goal.returns-then-number-form
 returns-then-number-form c =
@@ -29,7 +29,7 @@ returns-then-number-form c =
     let at = c.args.at in
     let f = c.in-Some.form in
     let s : IsForm (get_or bs at 0 % 32) f = rw (and_mask (get_or bs at 0) 5) at c.in-Some.ensures in
-    low_head (major_number c.args.major) bs at f (omega arith) c.requires.at_value s (bytes_typed bs (λ i. omega (arith, c.type_inv.bytes i))) (omega arith) (omega (arith, c.number.ensures))
+    low_head (major_number c.args.major) bs at f (omega arith) c.requires.same_major s (bytes_typed bs (λ i. omega (arith, c.type_inv.bytes i))) (omega arith) (omega (arith, c.number.ensures))
 
 pub returns-then-left-form-2 : goal.returns-then-left-form-2
 returns-then-left-form-2 c =
@@ -37,7 +37,7 @@ returns-then-left-form-2 c =
     let at = c.args.at in
     let f = c.in-Some.form in
     let s : IsForm (get_or bs at 0 % 32) f = rw (and_mask (get_or bs at 0) 5) at c.in-Some.ensures in
-    cut_head (major_number c.args.major) bs at f (omega arith) c.requires.at_value s (bytes_typed bs (λ i. omega (arith, c.type_inv.bytes i))) c.saturating_add.result (omega (arith, c.saturating_add.ensures)) (omega arith) (λ h. omega (arith, c.number.ensures))
+    cut_head (major_number c.args.major) bs at f (omega arith) c.requires.same_major s (bytes_typed bs (λ i. omega (arith, c.type_inv.bytes i))) c.saturating_add.result (omega (arith, c.saturating_add.ensures)) (omega arith) (λ h. omega (arith, c.number.ensures))
 
 pub returns : goal.returns
 returns c =
@@ -46,5 +46,5 @@ returns c =
     let f = c.in-Some.form in
     let s : IsForm (get_or bs at 0 % 32) f = rw (and_mask (get_or bs at 0) 5) at c.in-Some.ensures in
     let o : f.front ≤ f.width = omega arith in
-    let w = whole_head (major_number c.args.major) bs at f (omega arith) c.requires.at_value s (bytes_typed bs (λ i. omega (arith, c.type_inv.bytes i))) (omega arith) (omega (arith, c.number.ensures)) o in
+    let w = whole_head (major_number c.args.major) bs at f (omega arith) c.requires.same_major s (bytes_typed bs (λ i. omega (arith, c.type_inv.bytes i))) (omega arith) (omega (arith, c.number.ensures)) o in
     (subst (λ n. StandsAt (HeadOf (major_number c.args.major) n) bs at (at + 1 + f.width)) (sym c.number-2.ensures) w, omega arith)

@@ -21,4 +21,4 @@ returns-then-low-lt24 c =
     (small_head (major_number c.args.major) bs at c.from.result (omega arith) (c.if-bytes-at.false ∙ c.number_of.ensures) (c.from.ensures ∙ m) (omega arith), omega arith)
 
 pub long_head-requires : goal.long_head-requires
-long_head-requires c = record { at_in_bounds = omega arith; at_value = c.if-bytes-at.false ∙ c.number_of.ensures; bound = omega (arith, and_mask (get_or c.args.bytes.now c.args.at 0) 5) }
+long_head-requires c = record { at_in_bounds = omega arith; same_major = c.if-bytes-at.false ∙ c.number_of.ensures; long_form = omega (arith, and_mask (get_or c.args.bytes.now c.args.at 0) 5) }
