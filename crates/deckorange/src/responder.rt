@@ -120,7 +120,7 @@ fn write_answer(bytes: &[u8], lent: &mut [u64], out: &mut BufWriter<Stdout>) -> 
     requires { length lent.old ≡ 49156 }
 {
     let Ok(line) = answer(bytes, lent) else {
-        unreachable!()
+        unreachable()
     };
     written(writeln!(out, "{line}"))?;
     Ok(!matches!(line, Answer::Refused(Refusal::NotARequest, _)))
