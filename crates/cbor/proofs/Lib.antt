@@ -2,6 +2,7 @@ pub mod Numbers
 pub mod Words
 pub mod Heads
 pub mod Places
+pub mod Majors
 pub mod Writes
 pub mod Order
 pub mod Valid

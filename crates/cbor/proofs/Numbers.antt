@@ -1,7 +1,7 @@
 -- Bytes, and numbers in bytes.
-use Rattle.std.proofs.Common.{◌≡◌, ℕ, zero, suc, ◌+◌, ◌-◌, ◌*◌, ◌/◌, ◌%◌, ◌^◌, ◌<◌, ◌≤◌, true, ltb, List, [], ◌∷◌, ◌++◌, length, get_or, take, drop, replicate, sym, refl, ap, ◌∙◌, subst, append_assoc, mul-le-mul_right, mul_assoc, mul_comm, add-mul, pow-suc, arith, length-append, take-add}
+use Rattle.std.proofs.Common.{◌≡◌, ℕ, zero, suc, ◌+◌, ◌-◌, ◌*◌, ◌/◌, ◌%◌, ◌^◌, ◌<◌, ◌≤◌, true, ltb, List, [], ◌∷◌, ◌++◌, length, get_or, take, drop, replicate, sym, refl, ap, ◌∙◌, subst, append_assoc, mul-le-mul_right, mul_assoc, mul_comm, add-mul, pow-suc, arith, length-append}
 use Rattle.std.proofs.lemmas.Nat.{div_below, div-add-mod'}
-use Rattle.std.proofs.lemmas.List.{drop_more, length-drop, length-take-le, take-append-drop, drop-drop}
+use Rattle.std.proofs.lemmas.List.{length-drop, take-append-drop}
 use Rattle.std.proofs.lemmas.Bool.{lt-ltb, ltb-true, and_parts, and_from}
 use Rattle.cbor.specs.Encoding.{all_bytes, to_bytes, number, of_bytes}
 
@@ -81,15 +81,41 @@ number_parts h k t a l =
     let d : length (drop h t) ≡ k = length-drop h t ∙ (let z : length t - h ≡ k = omega arith in z) in
     (ap of_bytes (sym (take-append-drop h t)) ∙ number_two (take h t) (drop h t) ∙ ap (λ n. of_bytes (take h t) * 256 ^ n + of_bytes (drop h t)) d, subst (λ n. of_bytes (drop h t) < 256 ^ n) d (number_below (drop h t) (bytes_drop h t a)))
 
--- in lent bytes
-pub number_one : (at : ℕ) (bs : List ℕ) → at < length bs → of_bytes (take 1 (drop at bs)) ≡ get_or bs at 0
+-- so many bytes by themselves
+pub number_in_1 : (bs : List ℕ) → length bs ≡ 1 → get_or bs 0 0 ≡ of_bytes bs
 unfolding number
-number_one at bs h = rw (drop_more bs at 0 h) (omega arith)
+number_in_1 [] l = omega arith
+number_in_1 (a ∷ []) l = omega arith
+number_in_1 (a ∷ z ∷ r) l = omega arith
 
-pub number_at : (at k m : ℕ) (bs : List ℕ) → at + (k + m) ≤ length bs → of_bytes (take (k + m) (drop at bs)) ≡ of_bytes (take k (drop at bs)) * 256 ^ m + of_bytes (take m (drop (at + k) bs))
-number_at at k m bs h =
-    let l : m ≤ length (drop (at + k) bs) = rw (length-drop (at + k) bs) (omega arith) in
-    ap of_bytes (take-add k m (drop at bs)) ∙ rw (drop-drop k at bs) (number_two (take k (drop at bs)) (take m (drop (at + k) bs)) ∙ rw (length-take-le m (drop (at + k) bs) l))
+pub number_in_2 : (bs : List ℕ) → length bs ≡ 2 → get_or bs 0 0 * 256 + get_or bs 1 0 ≡ of_bytes bs
+unfolding number
+number_in_2 [] l = omega arith
+number_in_2 (a ∷ []) l = omega arith
+number_in_2 (a ∷ b ∷ []) l = omega arith
+number_in_2 (a ∷ b ∷ z ∷ r) l = omega arith
+
+pub number_in_4 : (bs : List ℕ) → length bs ≡ 4 → get_or bs 0 0 * 16777216 + get_or bs 1 0 * 65536 + get_or bs 2 0 * 256 + get_or bs 3 0 ≡ of_bytes bs
+unfolding number
+number_in_4 [] l = omega arith
+number_in_4 (a ∷ []) l = omega arith
+number_in_4 (a ∷ b ∷ []) l = omega arith
+number_in_4 (a ∷ b ∷ c ∷ []) l = omega arith
+number_in_4 (a ∷ b ∷ c ∷ d ∷ []) l = omega arith
+number_in_4 (a ∷ b ∷ c ∷ d ∷ z ∷ r) l = omega arith
+
+pub number_in_8 : (bs : List ℕ) → length bs ≡ 8 → get_or bs 0 0 * 72057594037927936 + get_or bs 1 0 * 281474976710656 + get_or bs 2 0 * 1099511627776 + get_or bs 3 0 * 4294967296 + get_or bs 4 0 * 16777216 + get_or bs 5 0 * 65536 + get_or bs 6 0 * 256 + get_or bs 7 0 ≡ of_bytes bs
+unfolding number
+number_in_8 [] l = omega arith
+number_in_8 (a ∷ []) l = omega arith
+number_in_8 (a ∷ b ∷ []) l = omega arith
+number_in_8 (a ∷ b ∷ c ∷ []) l = omega arith
+number_in_8 (a ∷ b ∷ c ∷ d ∷ []) l = omega arith
+number_in_8 (a ∷ b ∷ c ∷ d ∷ e ∷ []) l = omega arith
+number_in_8 (a ∷ b ∷ c ∷ d ∷ e ∷ f ∷ []) l = omega arith
+number_in_8 (a ∷ b ∷ c ∷ d ∷ e ∷ f ∷ g ∷ []) l = omega arith
+number_in_8 (a ∷ b ∷ c ∷ d ∷ e ∷ f ∷ g ∷ h ∷ []) l = omega arith
+number_in_8 (a ∷ b ∷ c ∷ d ∷ e ∷ f ∷ g ∷ h ∷ z ∷ r) l = omega arith
 
 -- WRITTEN
 

@@ -1,6 +1,7 @@
 -- Words and heads at places of lent bytes.
 use Rattle.std.proofs.Common.{◌≡◌, ℕ, suc, ◌+◌, ◌-◌, ◌*◌, ◌/◌, ◌%◌, ◌<◌, ◌≤◌, true, List, [], ◌∷◌, ◌++◌, length, get_or, take, drop, sym, refl, ap, ◌∙◌, subst, arith, length-append, take-append-drop, take-add}
-use Rattle.std.proofs.lemmas.List.{drop_more, length-drop, length-take-le, drop-drop, take-take, take_at, drop_at}
+use Rattle.std.proofs.lemmas.List.{drop_more, length-drop, length-take-le, drop-drop, take-take, take_all, take_at, drop_at}
+use Rattle.std.proofs.Math.Nat.{sub-zero}
 use Rattle.std.proofs.lemmas.Bool.{lt-ltb}
 use Rattle.cbor.specs.declared.reading.Form.{Form}
 use Rattle.cbor.specs.Encoding.{all_bytes, of_bytes}
@@ -20,6 +21,14 @@ part_more bs at mid end h k =
     let e : (mid - at) + (end - mid) ≡ end - at = omega arith in
     let d : at + (mid - at) ≡ mid = omega arith in
     ap (λ n. take n (drop at bs)) (sym e) ∙ take-add (mid - at) (end - mid) (drop at bs) ∙ ap (λ x. take (mid - at) (drop at bs) ++ take (end - mid) x) (drop-drop (mid - at) at bs ∙ ap (λ n. drop n bs) d)
+
+-- all that is left from a place on
+pub rest_all : (bs : List ℕ) (at : ℕ) → take (length bs - at) (drop at bs) ≡ drop at bs
+rest_all bs at = take_all (length bs - at) (drop at bs) (omega (arith, length-drop at bs))
+
+-- and its beginning
+pub start_of : (k : ℕ) (l : List ℕ) → take (k - 0) l ≡ take k l
+start_of k l = ap (λ n. take n l) (sub-zero k)
 
 pub part_length : (bs : List ℕ) (at end : ℕ) → at ≤ end → end ≤ length bs → length (take (end - at) (drop at bs)) ≡ end - at
 part_length bs at end h k = length-take-le (end - at) (drop at bs) (rw (length-drop at bs) (omega arith))

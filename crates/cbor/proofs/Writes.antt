@@ -1,5 +1,5 @@
 -- Strings written one after the other.
-use Rattle.std.proofs.Common.{◌≡◌, ℕ, suc, ◌+◌, ◌*◌, ◌/◌, ◌%◌, ◌<◌, ◌≤◌, List, [], ◌∷◌, ◌++◌, length, get_or, take, drop, Some, None, Option, sym, ap, ◌∙◌, append_assoc, arith, length-append}
+use Rattle.std.proofs.Common.{◌≡◌, ℕ, suc, ◌+◌, ◌*◌, ◌/◌, ◌%◌, ◌<◌, ◌≤◌, List, [], ◌∷◌, ◌++◌, length, get_or, take, drop, Some, None, Option, sym, ap, ◌∙◌, subst, append_assoc, arith, length-append}
 use native.Mathlib.Nat.{div-div-eq-div-mul}
 use Rattle.std.proofs.lemmas.List.{length-drop, length-take-le, take_at, drop_at, drop-drop}
 use Rattle.cbor.specs.declared.Major.{Major}
@@ -49,11 +49,14 @@ major_below Map = omega arith
 major_below Tag = omega arith
 major_below Simple = omega arith
 
-pub head_written : (m : Major) (r n s w : ℕ) (t : List ℕ) → r ≡ major_number m → Sized n s w → t ≡ to_bytes w n → (r * 32 % 256 + s) ∷ t ≡ head (major_number m) n
+head_written : (m : Major) (r n s w : ℕ) (t : List ℕ) → r ≡ major_number m → Sized n s w → t ≡ to_bytes w n → (r * 32 % 256 + s) ∷ t ≡ head (major_number m) n
 head_written m r n s w t e z f =
     let l = major_below m in
     let k : r * 32 % 256 + s ≡ 32 * major_number m + s = omega arith in
     (λ i. k i ∷ f i) ∙ sym (sized_head (major_number m) n s w z)
+
+pub writes_head : (m : Major) (r n s w at : ℕ) (t old new : List ℕ) (next : Option ℕ) → r ≡ major_number m → Sized n s w → t ≡ to_bytes w n → Writes old at ((r * 32 % 256 + s) ∷ t) new next → Writes old at (head (major_number m) n) new next
+writes_head m r n s w at t old new next e z f h = subst (λ u. Writes old at u new next) (head_written m r n s w t e z f) h
 
 pub one_byte : (n : ℕ) → n < 256 → n ∷ [] ≡ to_bytes 1 n
 unfolding to_bytes

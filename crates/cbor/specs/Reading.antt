@@ -1,5 +1,5 @@
 -- What reading a head tells.
-use Rattle.std.specs.Prelude.{◌≡◌, ℕ, ◌<◌, ◌≤◌, ◌⊎◌, List, Some, None, Ok, Err, Option, Result}
+use Rattle.std.specs.Prelude.{◌≡◌, ℕ, ◌+◌, ◌<◌, ◌≤◌, ◌⊎◌, List, length, Some, None, Ok, Err, Option, Result}
 use Rattle.cbor.specs.declared.reading.Head.{Head}
 use Rattle.cbor.specs.declared.reading.Stop.{Stop}
 use Rattle.cbor.specs.declared.reading.Form.{Form}
@@ -31,3 +31,8 @@ FormOf low None = (24 ≤ low → 27 < low)
 
 abbrev pub IsWidth : ℕ → Type 0
 IsWidth w = (w ≡ 1) ⊎ ((w ≡ 2) ⊎ ((w ≡ 4) ⊎ (w ≡ 8)))
+
+-- where so many bytes end
+abbrev pub BytesEnd : ℕ → List ℕ → ℕ → Option ℕ → Type 0
+BytesEnd n bs at (Some end) = (end ≡ at + n) × (end ≤ length bs)
+BytesEnd n bs at None = length bs < at + n

@@ -1,9 +1,9 @@
 // Heads read from lent bytes, with the place where there is none.
 ghost use Rattle.std.specs.Prelude.{◌≡◌, ◌+◌, ◌/◌, ◌%◌, ◌<◌, ◌≤◌, length, take, drop, slice_index};
 ghost use Rattle.cbor.specs.Encoding.{of_bytes, major_number};
-ghost use Rattle.cbor.specs.Reading.{HeadAt, FormOf, IsWidth};
+ghost use Rattle.cbor.specs.Reading.{HeadAt, FormOf, IsWidth, BytesEnd};
 
-use crate::{Major, number_of};
+use crate::Major;
 
 // The argument of a head, and where what follows the head stands.
 #[derive(Clone, Copy)]
@@ -46,44 +46,17 @@ fn form_of(low: u8) -> Option<Form>
     })
 }
 
-fn two(bytes: &[u8], at: usize) -> u16
-    requires { at + 2 ≤ length bytes.now }
-    ensures { result ≡ of_bytes (take 2 (drop at bytes.now)) }
-{
-    let high = u16::from(bytes[at]);
-    let low = u16::from(bytes[at + 1]);
-    (high << 8) + low
-}
-
-fn four(bytes: &[u8], at: usize) -> u32
-    requires { at + 4 ≤ length bytes.now }
-    ensures { result ≡ of_bytes (take 4 (drop at bytes.now)) }
-{
-    let high = u32::from(two(bytes, at));
-    let low = u32::from(two(bytes, at + 2));
-    (high << 16) + low
-}
-
-fn eight(bytes: &[u8], at: usize) -> u64
-    requires { at + 8 ≤ length bytes.now }
-    ensures { result ≡ of_bytes (take 8 (drop at bytes.now)) }
-{
-    let high = u64::from(four(bytes, at));
-    let low = u64::from(four(bytes, at + 4));
-    (high << 32) + low
-}
-
 // The number in 1, 2, 4 or 8 bytes.
-fn number(bytes: &[u8], at: usize, width: usize) -> u64
-    requires width_in_bounds { at + width ≤ length bytes.now }
-    requires is_width { IsWidth width }
-    ensures { result ≡ of_bytes (take width (drop at bytes.now)) }
+fn number(bytes: &[u8]) -> u64
+    requires { IsWidth (length bytes.now) }
+    ensures { result ≡ of_bytes bytes.now }
 {
-    match width {
-        1 => u64::from(bytes[at]),
-        2 => u64::from(two(bytes, at)),
-        4 => u64::from(four(bytes, at)),
-        _ => eight(bytes, at),
+    match *bytes {
+        [a] => u64::from(a),
+        [a, b] => u64::from(u16::from_be_bytes([a, b])),
+        [a, b, c, d] => u64::from(u32::from_be_bytes([a, b, c, d])),
+        [a, b, c, d, e, f, g, h] => u64::from_be_bytes([a, b, c, d, e, f, g, h]),
+        _ => unreachable(),
     }
 }
 
@@ -100,27 +73,26 @@ fn long_head(bytes: &[u8], at: usize, major: Major) -> Result<Head, Stop>
             least: at,
         });
     };
-    let after = at + 1;
-    let left = bytes.len() - after;
+    let rest = &bytes[at + 1..];
     let cut = Stop {
         place: bytes.len(),
-        least: after.saturating_add(form.width),
+        least: (at + 1).saturating_add(form.width),
     };
-    if left < form.front {
+    let Some(front) = rest.get(..form.front) else {
         return Err(cut);
-    }
-    if number(bytes, after, form.front) < form.least {
+    };
+    if number(front) < form.least {
         return Err(Stop {
             place: at + form.front,
             least: at,
         });
     }
-    if left < form.width {
+    let Some(argument) = rest.get(..form.width) else {
         return Err(cut);
-    }
+    };
     Ok(Head {
-        argument: number(bytes, after, form.width),
-        next: after + form.width,
+        argument: number(argument),
+        next: at + 1 + form.width,
     })
 }
 
@@ -128,13 +100,16 @@ fn long_head(bytes: &[u8], at: usize, major: Major) -> Result<Head, Stop>
 pub fn read_head(bytes: &[u8], at: usize, major: Major) -> Result<Head, Stop>
     ensures { HeadAt (major_number major) bytes.now at result }
 {
-    if at >= bytes.len() || bytes[at] >> 5 != number_of(major) {
-        return Err(Stop {
-            place: at,
-            least: at,
-        });
-    }
-    let low = bytes[at] & 31;
+    let first = match bytes.get(at) {
+        Some(&first) if Major::of_head(first) == major => first,
+        _ => {
+            return Err(Stop {
+                place: at,
+                least: at,
+            });
+        }
+    };
+    let low = first & 31;
     if low < 24 {
         return Ok(Head {
             argument: u64::from(low),
@@ -142,4 +117,15 @@ pub fn read_head(bytes: &[u8], at: usize, major: Major) -> Result<Head, Stop>
         });
     }
     long_head(bytes, at, major)
+}
+
+// Where so many bytes from a place on end, if they are there.
+pub fn bytes_end(bytes: &[u8], at: usize, size: u64) -> Option<usize>
+    ensures { BytesEnd size bytes.now at result }
+{
+    let left = bytes.len().checked_sub(at)?;
+    if size > left as u64 {
+        return None;
+    }
+    Some(at + size as usize)
 }

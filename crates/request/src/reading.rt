@@ -74,7 +74,7 @@ pub fn read_step<'a>(bytes: &'a [u8], at: usize) -> Result<NextStep<'a>, Stop>
     if kind.argument == 1 {
         let key = read_string(bytes, kind.next)?;
         return Ok(NextStep {
-            step: Step::Key(key.content),
+            step: Step::Key(key.value),
             next: key.next,
         });
     }
@@ -103,7 +103,7 @@ fn read_check<'a>(bytes: &'a [u8], at: usize) -> Result<Taken<'a>, Stop>
 {
     let item = read_string(bytes, at)?;
     Ok(Taken {
-        request: Request::Check(item.content),
+        request: Request::Check(item.value),
         took: item.next,
     })
 }
@@ -119,7 +119,7 @@ fn read_find<'a>(bytes: &'a [u8], at: usize) -> Result<Taken<'a>, Stop>
         steps: part(bytes, count.next, end),
     };
     Ok(Taken {
-        request: Request::Find(path, item.content),
+        request: Request::Find(path, item.value),
         took: item.next,
     })
 }
@@ -131,7 +131,7 @@ fn read_fit<'a>(bytes: &'a [u8], at: usize) -> Result<Taken<'a>, Stop>
     let which = read_number(bytes, rules.next)?;
     let item = read_string(bytes, which.next)?;
     Ok(Taken {
-        request: Request::Fit(rules.content, which.argument, item.content),
+        request: Request::Fit(rules.value, which.argument, item.value),
         took: item.next,
     })
 }
@@ -172,5 +172,5 @@ pub fn rules_in<'a>(bytes: &'a [u8]) -> Option<&'a [u8]>
     let Ok(rules) = read_string(bytes, kind.next) else {
         return None;
     };
-    Some(rules.content)
+    Some(rules.value)
 }

@@ -128,7 +128,7 @@ fn read_literal<'a>(bytes: &'a [u8], at: usize) -> Result<NextNode<'a>, Stop>
 {
     let item = read_string(bytes, at)?;
     Ok(NextNode {
-        node: Node::OfSchema(Schema::Literal(item.content)),
+        node: Node::OfSchema(Schema::Literal(item.value)),
         next: item.next,
     })
 }
@@ -225,7 +225,7 @@ pub fn read_field<'a>(bytes: &'a [u8], at: usize) -> Result<NextNode<'a>, Stop>
     }
     let key = read_string(bytes, opcode.next)?;
     Ok(NextNode {
-        node: Node::OfField(keyed(opcode.argument, key.content)),
+        node: Node::OfField(keyed(opcode.argument, key.value)),
         next: key.next,
     })
 }

@@ -137,18 +137,17 @@ content_cut n q a h = record {
   longer = λ rest (l, b). omega arith;
 }
 
-pub cut_string : (bs : List ℕ) (at mid n k : ℕ) → all_bytes bs ≡ true → StandsAt (HeadOf 2 n) bs at mid → length bs - mid < n → k ≤ mid + n → StopsAt (Any (TokenOf string)) bs at (length bs) k
+pub cut_string : (bs : List ℕ) (at mid n k : ℕ) → all_bytes bs ≡ true → StandsAt (HeadOf 2 n) bs at mid → length bs < mid + n → k ≤ mid + n → StopsAt (Any (TokenOf string)) bs at (length bs) k
 cut_string bs at mid n k a s h l =
     let z : length (drop mid bs) ≡ length bs - mid = length-drop mid bs in
     let c = content_cut n (drop mid bs) (bytes_drop mid bs a) (omega arith) in
     let m = s.1 in
     string_stops bs at (length bs) k (stops_at_later (HeadOf 2) Content (head_free 2) n bs at mid (length bs) k s (m, stops_lower (Content n) (drop mid bs) (length bs - mid) n (k - mid) (omega arith) (subst (λ x. Stops (Content n) (drop mid bs) x n) z c)))
 
-pub string_there : (bs content : List ℕ) (at mid n : ℕ) → all_bytes bs ≡ true → StandsAt (HeadOf 2 n) bs at mid → at < mid → n ≤ length bs - mid → content ≡ take (mid + n - mid) (drop mid bs) → TokenAt string (str content) bs at (mid + n)
-string_there bs content at mid n a (h, k, (e, w)) i l c =
-    let z : length (take (mid + n - mid) (drop mid bs)) ≡ mid + n - mid = part_length bs mid (mid + n) (omega arith) (omega arith) in
-    let y : length content ≡ n = ap length c ∙ z ∙ (let x : mid + n - mid ≡ n = omega arith in x) in
-    ((omega arith, omega arith, (part_more bs at mid (mid + n) h (omega arith) ∙ (λ i. (e ∙ ap (head 2) (sym y)) i ++ sym c i), (ap all_bytes c ∙ bytes_take (mid + n - mid) (drop mid bs) (bytes_drop mid bs a), omega arith))), omega arith)
+pub string_there : (bs : List ℕ) (at mid n end : ℕ) → all_bytes bs ≡ true → StandsAt (HeadOf 2 n) bs at mid → at < mid → end ≡ mid + n → end ≤ length bs → TokenAt string (str (take (end - mid) (drop mid bs))) bs at end
+string_there bs at mid n end a (h, k, (e, w)) i d l =
+    let y : length (take (end - mid) (drop mid bs)) ≡ n = part_length bs mid end (omega arith) l ∙ (let x : end - mid ≡ n = omega arith in x) in
+    ((omega arith, l, (part_more bs at mid end h (omega arith) ∙ (λ i. (e ∙ ap (head 2) (sym y)) i ++ take (end - mid) (drop mid bs)), (bytes_take (end - mid) (drop mid bs) (bytes_drop mid bs a), omega arith))), omega arith)
 
 pub token_some : (s : Shape) (t : Token) (u : List ℕ) → TokenOf s t u → 0 < length u
 token_some (opcode k) (num n) u (e, (h, l)) = omega (arith, ap length e, head_some 0 n (omega arith))

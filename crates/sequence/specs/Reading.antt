@@ -1,10 +1,11 @@
 -- What reading a token tells.
 use Rattle.std.specs.Prelude.{◌≡◌, ℕ, ◌<◌, List, Ok, Err, Result}
+use Rattle.std.specs.Borrow.{Bor}
 use Rattle.cbor.specs.declared.reading.Head.{Head}
 use Rattle.cbor.specs.declared.reading.Stop.{Stop}
 use Rattle.cbor.specs.Prefix.{Any, StandsAt}
 use Rattle.cbor.specs.Reading.{Stopped}
-use Rattle.sequence.specs.declared.reading.ByteString.{ByteString}
+use Rattle.sequence.specs.declared.reading.Parsed.{Parsed}
 use Rattle.sequence.specs.Token.{Token, num, str, spell, Shape, string, TokenOf}
 use Rattle.sequence.specs.Grammar.{Grammar, Completes}
 
@@ -16,8 +17,8 @@ abbrev pub NumberAt : Shape → List ℕ → ℕ → Result Head Stop → Type 0
 NumberAt s bs at (Ok h) = TokenAt s (num h.argument) bs at h.next
 NumberAt s bs at (Err stop) = Stopped (Any (TokenOf s)) bs at stop
 
-abbrev pub StringAt : List ℕ → ℕ → Result ByteString Stop → Type 0
-StringAt bs at (Ok x) = TokenAt string (str x.content.now) bs at x.next
+abbrev pub StringAt : List ℕ → ℕ → Result (Parsed (Bor (List ℕ))) Stop → Type 0
+StringAt bs at (Ok x) = TokenAt string (str x.value.now) bs at x.next
 StringAt bs at (Err stop) = Stopped (Any (TokenOf string)) bs at stop
 
 -- tokens up to a place

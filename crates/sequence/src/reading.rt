@@ -1,32 +1,47 @@
 // Tokens read from lent bytes, with the place where there is none.
-ghost use Rattle.std.specs.Prelude.{◌≡◌, ◌+◌, ◌-◌, ◌≤◌, length, take, drop};
+ghost use Rattle.std.specs.Prelude.{◌≡◌};
 ghost use Rattle.sequence.specs.Token.{opcode, number};
 ghost use Rattle.sequence.specs.Reading.{NumberAt, StringAt};
 
 use cbor::Major;
-use cbor::reading::{Head, Stop, read_head};
+use cbor::reading::{Head, Stop, bytes_end, read_head};
 
-// The content of a byte string, as a part of the lent bytes, and where what follows it stands.
+// What was read, and where what follows it stands.
 #[derive(Clone, Copy)]
-pub struct ByteString<'a> {
-    pub content: &'a [u8],
+pub struct Parsed<T> {
+    pub value: T,
     pub next: usize,
+}
+
+impl<T> Parsed<T> {
+    // The same place, with what is made of what was read.
+    pub fn map<U, F: FnOnce(T) -> U>(self, make: F) -> Parsed<U>
+        requires { F.pre make self.value }
+        ensures value { F.post make self.value result.value }
+        ensures next { result.next ≡ self.next }
+    {
+        let Parsed { value, next } = self;
+        Parsed {
+            value: make(value),
+            next,
+        }
+    }
 }
 
 // One of a few: a number up to and with `last`, in one byte.
 pub fn read_opcode(bytes: &[u8], at: usize, last: u8) -> Result<Head, Stop>
     ensures { NumberAt (opcode last) bytes.now at result }
 {
-    if at >= bytes.len() || bytes[at] > last || bytes[at] >= 24 {
-        return Err(Stop {
+    match bytes.get(at) {
+        Some(&opcode) if opcode <= last.min(23) => Ok(Head {
+            argument: u64::from(opcode),
+            next: at + 1,
+        }),
+        _ => Err(Stop {
             place: at,
             least: at,
-        });
+        }),
     }
-    Ok(Head {
-        argument: u64::from(bytes[at]),
-        next: at + 1,
-    })
 }
 
 pub fn read_number(bytes: &[u8], at: usize) -> Result<Head, Stop>
@@ -35,28 +50,18 @@ pub fn read_number(bytes: &[u8], at: usize) -> Result<Head, Stop>
     read_head(bytes, at, Major::Unsigned)
 }
 
-fn part<'a>(bytes: &'a [u8], from: usize, next: usize) -> &'a [u8]
-    requires from_le_next { from ≤ next }
-    requires next_in_bounds { next ≤ length bytes.now }
-    ensures { result.now ≡ take (next - from) (drop from bytes.now) }
-{
-    &bytes[from..next]
-}
-
-pub fn read_string<'a>(bytes: &'a [u8], at: usize) -> Result<ByteString<'a>, Stop>
+pub fn read_string(bytes: &[u8], at: usize) -> Result<Parsed<&[u8]>, Stop>
     ensures { StringAt bytes.now at result }
 {
     let head = read_head(bytes, at, Major::Bytes)?;
-    let length = head.argument as usize;
-    if bytes.len() - head.next < length {
+    let Some(next) = bytes_end(bytes, head.next, head.argument) else {
         return Err(Stop {
             place: bytes.len(),
-            least: head.next.saturating_add(length),
+            least: head.next.saturating_add(head.argument as usize),
         });
-    }
-    let next = head.next + length;
-    Ok(ByteString {
-        content: part(bytes, head.next, next),
+    };
+    Ok(Parsed {
+        value: &bytes[head.next..next],
         next,
     })
 }

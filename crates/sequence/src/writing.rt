@@ -5,7 +5,7 @@ ghost use Rattle.sequence.specs.Token.{token_bytes, spell};
 ghost use Rattle.sequence.specs.Writing.{SizeOf, token_of, tokens_of};
 
 use cbor::Major;
-use cbor::writing::{head_size, write_bytes, write_head};
+use cbor::writing::{has_room, head_size, write_bytes, write_head};
 
 #[derive(Clone, Copy)]
 pub enum Token<'a> {
@@ -42,7 +42,7 @@ pub fn write_token(out: &mut [u8], at: usize, token: Token<'_>) -> Option<usize>
         Token::Number(value) => write_head(out, at, Major::Unsigned, value),
         Token::Bytes(content) => {
             let size = token_size(token)?;
-            if at > out.len() || out.len() - at < size {
+            if !has_room(out, at, size) {
                 return None;
             }
             let next = write_head(out, at, Major::Bytes, content.len() as u64)?;
@@ -56,7 +56,7 @@ pub fn write_tokens(out: &mut [u8], at: usize, tokens: &[Token<'_>]) -> Option<u
     ensures { Writes out.old at (spell (tokens_of tokens.now)) out.new result }
 {
     let size = tokens_size(tokens)?;
-    if at > out.len() || out.len() - at < size {
+    if !has_room(out, at, size) {
         return None;
     }
     let mut next = at;

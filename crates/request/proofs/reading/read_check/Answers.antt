@@ -13,4 +13,4 @@ returns-in_err-item c =
     rw (p.1, p.2) (stop_first requests completable a_string [] c.args.bytes.now c.args.at s c.in_err-item.ensures)
 
 pub returns : goal.returns
-returns c = check_there c.args.bytes.now c.args.at c.in_ok-item.item.next c.in_ok-item.item.content c.in_ok-item.ensures
+returns c = check_there c.args.bytes.now c.args.at c.in_ok-item.item.next c.in_ok-item.item.value c.in_ok-item.ensures

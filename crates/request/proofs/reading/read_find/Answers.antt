@@ -25,4 +25,4 @@ returns-in_err-item c =
     rw (p.1, p.2) (find_item_stops c.args.bytes.now c.args.at c.in_ok-count.count.next c.in_ok-end.end c.in_ok-count.count.argument s c.in_ok-count.ensures c.in_ok-end.ensures (stop_first requests completable a_string [] c.args.bytes.now c.in_ok-end.end s c.in_err-item.ensures))
 
 pub returns : goal.returns
-returns c = find_there c.args.bytes.now c.args.at c.in_ok-count.count.next c.in_ok-end.end c.in_ok-item.item.next c.in_ok-count.count.argument c.part.result c.in_ok-item.item.content c.part.ensures c.in_ok-count.ensures c.in_ok-end.ensures c.in_ok-item.ensures
+returns c = find_there c.args.bytes.now c.args.at c.in_ok-count.count.next c.in_ok-end.end c.in_ok-item.item.next c.in_ok-count.count.argument c.part.result c.in_ok-item.item.value c.part.ensures c.in_ok-count.ensures c.in_ok-end.ensures c.in_ok-item.ensures

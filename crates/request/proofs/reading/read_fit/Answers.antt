@@ -17,13 +17,13 @@ pub returns-in_err-which : goal.returns-in_err-which
 returns-in_err-which c =
     let p = err_from_is_err_and c.from_residual-in_err-which.result c.from_residual-in_err-which.ensures.1 in
     let s = c.in_err-which.field-0.0 in
-    rw (p.1, p.2) (stop_later requests a_string (a_number ∷ a_string ∷ []) (str c.in_ok-rules.rules.content.now) c.args.bytes.now c.args.at c.in_ok-rules.rules.next s c.in_ok-rules.ensures.0 (stop_first requests completable a_number (a_string ∷ []) c.args.bytes.now c.in_ok-rules.rules.next s c.in_err-which.ensures))
+    rw (p.1, p.2) (stop_later requests a_string (a_number ∷ a_string ∷ []) (str c.in_ok-rules.rules.value.now) c.args.bytes.now c.args.at c.in_ok-rules.rules.next s c.in_ok-rules.ensures.0 (stop_first requests completable a_number (a_string ∷ []) c.args.bytes.now c.in_ok-rules.rules.next s c.in_err-which.ensures))
 
 pub returns-in_err-item : goal.returns-in_err-item
 returns-in_err-item c =
     let p = err_from_is_err_and c.from_residual-in_err-item.result c.from_residual-in_err-item.ensures.1 in
     let s = c.in_err-item.field-0.0 in
-    rw (p.1, p.2) (stop_later requests a_string (a_number ∷ a_string ∷ []) (str c.in_ok-rules.rules.content.now) c.args.bytes.now c.args.at c.in_ok-rules.rules.next s c.in_ok-rules.ensures.0 (stop_later requests a_number (a_string ∷ []) (num c.in_ok-which.which.argument) c.args.bytes.now c.in_ok-rules.rules.next c.in_ok-which.which.next s c.in_ok-which.ensures.0 (stop_first requests completable a_string [] c.args.bytes.now c.in_ok-which.which.next s c.in_err-item.ensures)))
+    rw (p.1, p.2) (stop_later requests a_string (a_number ∷ a_string ∷ []) (str c.in_ok-rules.rules.value.now) c.args.bytes.now c.args.at c.in_ok-rules.rules.next s c.in_ok-rules.ensures.0 (stop_later requests a_number (a_string ∷ []) (num c.in_ok-which.which.argument) c.args.bytes.now c.in_ok-rules.rules.next c.in_ok-which.which.next s c.in_ok-which.ensures.0 (stop_first requests completable a_string [] c.args.bytes.now c.in_ok-which.which.next s c.in_err-item.ensures)))
 
 pub returns : goal.returns
-returns c = fit_there c.args.bytes.now c.args.at c.in_ok-rules.rules.next c.in_ok-which.which.next c.in_ok-item.item.next c.in_ok-which.which.argument c.in_ok-rules.rules.content c.in_ok-item.item.content c.in_ok-rules.ensures c.in_ok-which.ensures c.in_ok-item.ensures
+returns c = fit_there c.args.bytes.now c.args.at c.in_ok-rules.rules.next c.in_ok-which.which.next c.in_ok-item.item.next c.in_ok-which.which.argument c.in_ok-rules.rules.value c.in_ok-item.item.value c.in_ok-rules.ensures c.in_ok-which.ensures c.in_ok-item.ensures

@@ -39,7 +39,7 @@ pub returns-then-kind-eq1 : goal.returns-then-kind-eq1
 returns-then-kind-eq1 c =
     let z : c.in_ok-kind.kind.argument ≡ 1 = omega (arith, c.in_ok-kind.ensures.0.2.1) in
     let t : TokenAt (opcode 2) (num 1) c.args.bytes.now c.args.at c.in_ok-kind.kind.next = subst (λ n. TokenAt (opcode 2) (num n) c.args.bytes.now c.args.at c.in_ok-kind.kind.next) z c.in_ok-kind.ensures in
-    (c.in_ok-key.ensures.0.2.1, spelled_two (opcode 2) string (num 1) (str c.in_ok-key.key.content.now) c.args.bytes.now c.args.at c.in_ok-kind.kind.next c.in_ok-key.key.next t c.in_ok-key.ensures)
+    (c.in_ok-key.ensures.0.2.1, spelled_two (opcode 2) string (num 1) (str c.in_ok-key.key.value.now) c.args.bytes.now c.args.at c.in_ok-kind.kind.next c.in_ok-key.key.next t c.in_ok-key.ensures)
 
 pub returns : goal.returns
 returns c =

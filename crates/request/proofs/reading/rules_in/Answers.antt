@@ -18,4 +18,4 @@ returns-in_default-read_string c =
 pub returns : goal.returns
 returns c =
     let t : TokenAt (opcode 2) (num 2) c.args.bytes.now 0 c.in-Ok.kind.next = subst (λ n. TokenAt (opcode 2) (num n) c.args.bytes.now 0 c.in-Ok.kind.next) c.if-kind-ne2.false c.in-Ok.ensures in
-    rules_there c.args.bytes.now c.in-Ok-read_string.rules.content.now c.in-Ok.kind.next c.in-Ok-read_string.rules.next t c.in-Ok-read_string.ensures
+    rules_there c.args.bytes.now c.in-Ok-read_string.rules.value.now c.in-Ok.kind.next c.in-Ok-read_string.rules.next t c.in-Ok-read_string.ensures

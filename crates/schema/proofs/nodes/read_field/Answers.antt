@@ -28,4 +28,4 @@ returns-in_err-key c =
     rw (p.1, p.2) (node_whole a_field c.in_ok-opcode.opcode.argument c.args.bytes.now c.args.at c.in_ok-opcode.opcode.next (Err s) c.in_ok-opcode.ensures (keyed_stops c.in_ok-opcode.opcode.argument c.args.bytes.now c.in_ok-opcode.opcode.next s (omega (arith, c.in_ok-opcode.ensures.0.2.1)) c.in_err-key.ensures))
 
 pub returns : goal.returns
-returns c = node_whole a_field c.in_ok-opcode.opcode.argument c.args.bytes.now c.args.at c.in_ok-opcode.opcode.next (Ok (record { node = OfField c.keyed.result; next = c.in_ok-key.key.next })) c.in_ok-opcode.ensures (keyed_there c.in_ok-opcode.opcode.argument c.in_ok-key.key.content.now c.args.bytes.now c.in_ok-opcode.opcode.next c.in_ok-key.key.next c.keyed.result (omega (arith, c.in_ok-opcode.ensures.0.2.1)) c.in_ok-key.ensures c.keyed.ensures)
+returns c = node_whole a_field c.in_ok-opcode.opcode.argument c.args.bytes.now c.args.at c.in_ok-opcode.opcode.next (Ok (record { node = OfField c.keyed.result; next = c.in_ok-key.key.next })) c.in_ok-opcode.ensures (keyed_there c.in_ok-opcode.opcode.argument c.in_ok-key.key.value.now c.args.bytes.now c.in_ok-opcode.opcode.next c.in_ok-key.key.next c.keyed.result (omega (arith, c.in_ok-opcode.ensures.0.2.1)) c.in_ok-key.ensures c.keyed.ensures)

@@ -10,4 +10,4 @@ returns-in_err-item c =
     rw (p.1, p.2) (λ ss. (ceases_first a_literal ss c.args.bytes.now c.args.at s c.in_err-item.ensures, λ w. w))
 
 pub returns : goal.returns
-returns c = literal_there c.args.bytes.now c.args.at c.in_ok-item.item.next c.in_ok-item.item.content c.in_ok-item.ensures
+returns c = literal_there c.args.bytes.now c.args.at c.in_ok-item.item.next c.in_ok-item.item.value c.in_ok-item.ensures

@@ -1,16 +1,12 @@
-use Rattle.std.proofs.Common.{arith}
-use Rattle.sequence.proofs.Tokens.{no_opcode, opcode_there}
+use Rattle.std.proofs.Common.{length, sym, arith}
+use Rattle.std.proofs.lemmas.Bool.{ltb-false}
+use Rattle.sequence.proofs.Tokens.{no_opcode}
 use Rattle.sequence.proofs.reading.read_opcode.Goals as goal
-use Rattle.sequence.proofs.reading.read_opcode.Goals.{then-at-bytes-via-then-at-bytes, then-at-bytes-via-else-at-bytes+then-bytes-at, then-at-bytes-via-else-at-bytes+else-bytes-at+then-bytes-at-ge24}
 
-pub returns-then-at-bytes : goal.returns-then-at-bytes
-returns-then-at-bytes c =
-    no_opcode c.args.last c.args.bytes.now c.args.at (λ h k l.
-    elim c.then-at-bytes.branch [
-      | then-at-bytes-via-then-at-bytes w ↦ omega (arith, w.if-at-bytes.true)
-      | then-at-bytes-via-else-at-bytes+then-bytes-at w ↦ omega (arith, w.if-bytes-at.true)
-      | then-at-bytes-via-else-at-bytes+else-bytes-at+then-bytes-at-ge24 w ↦ omega (arith, w.if-bytes-at-ge24.true)
-    ])
+pub returns-in_default : goal.returns-in_default
+returns-in_default c = no_opcode c.args.last c.args.bytes.now c.args.at (λ h k l. omega (arith, c.min.ensures, c.if-opcode-min.false, c.in-Some.ensures.lookup.3.1 0))
 
-pub returns : goal.returns
-returns c = opcode_there c.args.last c.args.bytes.now c.args.at c.from.result (omega arith) c.from.ensures (omega arith) (omega arith)
+pub returns-in_default-2 : goal.returns-in_default-2
+returns-in_default-2 c =
+    let n = rw c.in_default.is at c.get.ensures.lookup.0 in
+    no_opcode c.args.last c.args.bytes.now c.args.at (λ h k l. omega (arith, ltb-false c.args.at (length c.args.bytes.now) (sym n)))

@@ -10,8 +10,8 @@ returns-in_err-head c =
     let s = c.in_err-head.field-0.0 in
     rw (p.1, p.2) (no_string c.args.bytes.now c.args.at s.place s.least c.in_err-head.ensures)
 
-pub returns-then-bytes-head : goal.returns-then-bytes-head
-returns-then-bytes-head c = cut_string c.args.bytes.now c.args.at c.in_ok-head.head.next c.in_ok-head.head.argument c.saturating_add.result (bytes_typed c.args.bytes.now (λ i. omega (arith, c.type_inv.bytes i))) c.in_ok-head.ensures.0 (omega arith) (omega (arith, c.saturating_add.ensures))
+pub returns-in_default : goal.returns-in_default
+returns-in_default c = cut_string c.args.bytes.now c.args.at c.in_ok-head.head.next c.in_ok-head.head.argument c.saturating_add.result (bytes_typed c.args.bytes.now (λ i. omega (arith, c.type_inv.bytes i))) c.in_ok-head.ensures.0 c.in_default.ensures (omega (arith, c.saturating_add.ensures))
 
 pub returns : goal.returns
-returns c = string_there c.args.bytes.now c.part.result.now c.args.at c.in_ok-head.head.next c.in_ok-head.head.argument (bytes_typed c.args.bytes.now (λ i. omega (arith, c.type_inv.bytes i))) c.in_ok-head.ensures.0 c.in_ok-head.ensures.1 (omega arith) c.part.ensures
+returns c = string_there c.args.bytes.now c.args.at c.in_ok-head.head.next c.in_ok-head.head.argument c.in-Some.next (bytes_typed c.args.bytes.now (λ i. omega (arith, c.type_inv.bytes i))) c.in_ok-head.ensures.0 c.in_ok-head.ensures.1 c.in-Some.ensures.0 c.in-Some.ensures.1
