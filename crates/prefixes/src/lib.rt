@@ -4,32 +4,22 @@
 
 ghost use Rattle.prefixes.specs.Verdict.{BeginsIsPrefix, CheckIsRight, OneVerdict, RoomIsEntries, WalkIsRight};
 
-pub fn check_is_right_stands() -> u8
+pub fn check_is_right_stands()
     ensures { CheckIsRight }
-{
-    0
-}
+{}
 
-pub fn one_verdict_stands() -> u8
+pub fn one_verdict_stands()
     ensures { OneVerdict }
-{
-    0
-}
+{}
 
-pub fn walk_is_right_stands() -> u8
+pub fn walk_is_right_stands()
     ensures { WalkIsRight }
-{
-    0
-}
+{}
 
-pub fn begins_is_prefix_stands() -> u8
+pub fn begins_is_prefix_stands()
     ensures { BeginsIsPrefix }
-{
-    0
-}
+{}
 
-pub fn room_is_entries_stands() -> u8
+pub fn room_is_entries_stands()
     ensures { RoomIsEntries }
-{
-    0
-}
+{}
