@@ -1,4 +1,6 @@
 // Heads read from lent bytes, with the place where there is none.
+// The bytes and a place in them are two parameters in every crate: what is told are places of all the bytes, so one value of both would be taken apart and made anew at
+// each call. Each function takes any place; where a clause says that one is among the bytes, a function that takes any has just told it.
 ghost use Rattle.std.specs.Prelude.{◌≡◌, ◌+◌, ◌/◌, ◌%◌, ◌<◌, ◌≤◌, length, take, drop, slice_index};
 ghost use Rattle.cbor.specs.Encoding.{of_bytes, major_number};
 ghost use Rattle.cbor.specs.Reading.{HeadAt, FormOf, IsWidth, BytesEnd};

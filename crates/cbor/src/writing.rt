@@ -1,4 +1,4 @@
-// Heads and strings written into lent bytes.
+// Heads and strings written into lent bytes. The place stands beside the bytes: who writes on after a refusal has it still, which a writer that moves it would have lost.
 ghost use Rattle.std.specs.Prelude.{◌≡◌, ℕ, ◌+◌, ◌≤◌, length, IsTrue, ◌↔◌};
 ghost use Rattle.cbor.specs.Encoding.{head, major_number};
 ghost use Rattle.cbor.specs.Writing.{Writes};

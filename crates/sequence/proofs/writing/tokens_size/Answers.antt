@@ -1,9 +1,9 @@
-use Rattle.std.proofs.Common.{◌+◌, length, get_or, take, refl, ap, ◌∙◌, inl, inr, arith, length-append}
+use Rattle.std.proofs.Common.{◌+◌, length, get_or, take, refl, ap, inl, inr, arith, length-append}
 use Rattle.std.proofs.lemmas.Bool.{cases_lt}
 use Rattle.sequence.specs.declared.writing.Token.TheVariants.{Number}
 use Rattle.sequence.specs.Token.{token_bytes, spell}
 use Rattle.sequence.specs.Writing.{token_of, tokens_of}
-use Rattle.sequence.proofs.Sizes.{spelled_more, spelled_part, spelled_all}
+use Rattle.sequence.proofs.Sizes.{spelled_more, spelled_part}
 use Rattle.sequence.proofs.writing.tokens_size.Goals as goal
 
 pub loop-token-init : goal.loop-token-init
@@ -30,6 +30,3 @@ loop-token-preserved c =
     let ts = c.args.tokens.now in
     let i = c.loop-token.token-index in
     omega (arith, c.loop-token.invariant, c.in_ok-size.ensures, c.in_ok-token_size.ensures, ap length (spelled_more ts i (omega arith)), length-append (spell (tokens_of (take i ts))) (token_bytes (token_of (get_or ts i (Number 0)))))
-
-pub returns : goal.returns
-returns c = c.loop-token.invariant ∙ ap length (spelled_all c.args.tokens.now c.loop-token.token-index (omega arith))

@@ -1,16 +1,10 @@
-use Rattle.std.proofs.Common.{length, sym, ap, subst, arith, length-append}
+use Rattle.std.proofs.Common.{length, sym, ap, subst, arith}
 use Rattle.cbor.specs.Encoding.{head}
 use Rattle.cbor.specs.Writing.{Writes}
 use Rattle.cbor.proofs.Writes.{writes_then}
 use Rattle.sequence.specs.Token.{token_bytes}
 use Rattle.sequence.specs.Writing.{token_of}
 use Rattle.sequence.proofs.writing.write_token.Goals as goal
-
-pub returns-in_err-next-in-Bytes : goal.returns-in_err-next-in-Bytes
-returns-in_err-next-in-Bytes c =
-    let bs = c.in-Bytes.content.now in
-    let e = ap (λ t. length (token_bytes (token_of t))) c.in-Bytes.is in
-    absurd (omega (arith, c.in_err-next-in-Bytes.ensures.0, c.in_ok-size-in-Bytes.ensures, e, length-append (head 2 (length bs)) bs))
 
 pub returns-in_ok-next-in-Bytes : goal.returns-in_ok-next-in-Bytes
 returns-in_ok-next-in-Bytes c =

@@ -4,7 +4,7 @@ use Rattle.cbor.proofs.Writes.{writes_then, room_more}
 use Rattle.sequence.specs.declared.writing.Token.TheVariants.{Number}
 use Rattle.sequence.specs.Token.{token_bytes, spell}
 use Rattle.sequence.specs.Writing.{token_of, tokens_of}
-use Rattle.sequence.proofs.Sizes.{spelled_more, spelled_part, spelled_all, writes_none}
+use Rattle.sequence.proofs.Sizes.{spelled_more, spelled_part, writes_none}
 use Rattle.sequence.proofs.writing.write_tokens.Goals as goal
 
 pub loop-token-init : goal.loop-token-init
@@ -24,6 +24,3 @@ loop-token-preserved c =
     let old = c.args.out.now in
     subst (λ w. Writes old c.args.at w c.write_token.new.out (Some c.in_ok-next.next)) (sym (spelled_more ts i (omega arith)))
     (writes_then old c.loop-token.out c.write_token.new.out (spell (tokens_of (take i ts))) (token_bytes (token_of (get_or ts i (Number 0)))) c.args.at c.loop-token.next (Some c.in_ok-next.next) (omega (arith, c.in_ok-size.ensures, spelled_part ts i (omega arith))) c.loop-token.invariant c.in_ok-next.ensures)
-
-pub returns : goal.returns
-returns c = subst (λ w. Writes c.args.out.now c.args.at w c.loop-token.out (Some c.loop-token.next)) (spelled_all c.args.tokens.now c.loop-token.token-index (omega arith)) c.loop-token.invariant
