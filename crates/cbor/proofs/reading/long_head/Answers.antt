@@ -1,6 +1,6 @@
-use Rattle.std.proofs.Common.{◌≡◌, ◌+◌, ◌%◌, ◌<◌, ◌≤◌, length, take, drop, get_or, sym, ap, ◌∙◌, subst, arith}
+use Rattle.std.proofs.Common.{◌≡◌, ◌+◌, ◌%◌, ◌<◌, ◌≤◌, take, drop, get_or, sym, ap, ◌∙◌, subst, arith}
 use Rattle.std.proofs.lemmas.Nat.{and_mask}
-use Rattle.std.proofs.lemmas.List.{length-drop, length-take-le}
+use Rattle.std.proofs.lemmas.List.{length-drop}
 use Rattle.cbor.specs.Encoding.{major_number, of_bytes}
 use Rattle.cbor.specs.Prefix.{StandsAt}
 use Rattle.cbor.specs.Reading.{HeadOf, IsForm}
@@ -15,16 +15,6 @@ returns-in_default c =
     let m = and_mask (get_or bs at 0) 5 in
     let h : 27 < get_or bs at 0 % 32 = rw m at (c.in_default.ensures (omega (arith, m))) in
     no_head (major_number c.args.major) bs at (λ i s l e. omega arith)
-
-pub number-requires : goal.number-requires
-number-requires c =
-    let bs = c.args.bytes.now in
-    let at = c.args.at in
-    let f = c.in-Some.form in
-    let s : IsForm (get_or bs at 0 % 32) f = rw (and_mask (get_or bs at 0) 5) at c.in-Some.ensures in
-    let g = rw (rest_all bs (at + 1)) at c.in-Some-get.ensures.lookup in
-    let l : length c.in-Some-get.front.now ≡ f.front = ap length (g.0.2 ∙ start_of f.front (drop (at + 1) bs)) ∙ length-take-le f.front (drop (at + 1) bs) g.0.1 in
-    grind arith
 
 pub returns-in_default-get : goal.returns-in_default-get
 returns-in_default-get c =

@@ -24,13 +24,3 @@ returns-then-low-lt24 c =
     let m : get_or bs at 0 / 32 ≡ major_number c.args.major = omega (arith, e, c.of_head.ensures, same_number c.of_head.result c.args.major (sym c.eq.ensures ∙ c.if-eq.true)) in
     let n : c.from.result ≡ get_or bs at 0 % 32 = omega (arith, e, c.from.ensures, and_mask c.in-Some.field-0.now 5) in
     (small_head (major_number c.args.major) bs at c.from.result h.0 m n (omega arith), omega arith)
-
-pub long_head-requires : goal.long_head-requires
-long_head-requires c =
-    let h = c.in-Some.ensures.lookup.3 in
-    let e = h.1 0 in
-    record {
-      at_in_bounds = h.0;
-      same_major = omega (arith, e, c.of_head.ensures, same_number c.of_head.result c.args.major (sym c.eq.ensures ∙ c.if-eq.true));
-      long_form = omega (arith, e, and_mask c.in-Some.field-0.now 5);
-    }
