@@ -1,7 +1,12 @@
 -- Byte strings compared: the index that decides.
-use Rattle.std.proofs.Common.{◌≡◌, ℕ, zero, suc, ◌+◌, ◌<◌, ◌≤◌, Bool, true, false, ◌||◌, ltb, List, [], ◌∷◌, ◌++◌, length, get_or, take, drop, sym, refl, ap, ◌∙◌, subst, arith}
-use Rattle.std.proofs.lemmas.List.{drop_more, drop_all, take_more, take_all}
+use Rattle.std.proofs.Common.{◌≡◌, ℕ, zero, suc, ◌<◌, ◌≤◌, Bool, true, false, ◌||◌, ltb, List, [], ◌∷◌, length, get_or, take, drop, Some, None, Option, Less, Equal, Greater, Ordering, Bor, sym, refl, ap, ◌∙◌, arith}
+use Rattle.std.proofs.lemmas.List.{drop_more, drop_all, take_all}
 use Rattle.std.proofs.lemmas.Bool.{lt-ltb, eq-eqb}
+use Rattle.std.proofs.lemmas.Bool.Decides.{nat_tests}
+use Rattle.std.proofs.lemmas.Grind.{common_steps, same_number_lists}
+use Rattle.std.specs.Ordering.{nat_cmp}
+use Rattle.std.specs.Option.{option_cmp}
+use Rattle.std.specs.Slice.{IsItemAt}
 use Rattle.cbor.specs.Order.{before}
 use Rattle.items.specs.Comparing.{FirstBefore, SameSoFar, DecidedAt}
 
@@ -30,23 +35,31 @@ decides (suc i) (x ∷ xs) (y ∷ ys) (e, h) =
 abbrev Decides : ℕ → List ℕ → List ℕ → Type 0
 Decides i xs ys = DecidedAt i xs ys × (before xs ys ≡ true)
 
-decided : (i : ℕ) (xs ys : List ℕ) → SameSoFar i xs ys → FirstBefore (drop i xs) (drop i ys) → Decides i xs ys
-decided i xs ys e h = ((e, h), decides i xs ys (e, h))
+abbrev item_cmp : Option (Bor ℕ) → Option (Bor ℕ) → Ordering
+item_cmp = option_cmp (λ x y. nat_cmp x.now y.now)
 
-pub same_at : (i j : ℕ) (xs ys : List ℕ) → i ≡ j → SameSoFar i xs ys → SameSoFar j xs ys
-same_at i j xs ys e h = subst (λ k. SameSoFar k xs ys) e h
+first_items : (i : ℕ) (xs ys : List ℕ) (r s : Option (Bor ℕ)) → IsItemAt xs i r → IsItemAt ys i s → Less ≡ item_cmp r s → FirstBefore (drop i xs) (drop i ys)
+first_items i xs ys None None a b e = cc
+first_items i xs ys None (Some y) a b e = rw (drop_all i xs (omega arith), drop_more ys i 0 (omega arith)) tt
+first_items i xs ys (Some x) None a b e = cc
+first_items i xs ys (Some x) (Some y) a b e = rw (drop_more xs i 0 (omega arith), drop_more ys i 0 (omega arith)) (grind (arith, nat_tests))
 
-module _ (i : ℕ) (xs ys : List ℕ) where
-  -- by a byte of both
-  pub decided_by_byte : SameSoFar i xs ys → i < length xs → i < length ys → get_or xs i 0 < get_or ys i 0 → Decides i xs ys
-  decided_by_byte e h k l = decided i xs ys e (subst (λ u. FirstBefore u (drop i ys)) (sym (drop_more xs i 0 h)) (subst (λ v. FirstBefore (get_or xs i 0 ∷ drop (i + 1) xs) v) (sym (drop_more ys i 0 k)) l))
+-- the same up to an index
+module _ (i : ℕ) (xs ys : List ℕ) (k : i ≤ length xs) (l : i ≤ length ys) (same : (j : ℕ) → j < i → get_or xs j 0 ≡ get_or ys j 0) where
+  same_so_far : SameSoFar i xs ys
+  same_so_far = same_number_lists (take i xs) (take i ys) (grind (arith, common_steps)) (λ j h. grind (arith, common_steps, same j))
 
-  -- by the end of one
-  pub decided_by_end : SameSoFar i xs ys → length xs ≤ i → i < length ys → Decides i xs ys
-  decided_by_end e h k = decided i xs ys e (subst (λ u. FirstBefore u (drop i ys)) (sym (drop_all i xs h)) (subst (λ v. FirstBefore [] v) (sym (drop_more ys i 0 k)) tt))
+  pub item_decides : (r s : Option (Bor ℕ)) → IsItemAt xs i r → IsItemAt ys i s → Less ≡ item_cmp r s → Decides i xs ys
+  item_decides r s a b e = let h : DecidedAt i xs ys = (same_so_far, first_items i xs ys r s a b e) in (h, decides i xs ys h)
 
-  pub same_more : SameSoFar i xs ys → i < length xs → i < length ys → get_or xs i 0 ≡ get_or ys i 0 → SameSoFar (i + 1) xs ys
-  same_more e h k b = take_more xs i 0 h ∙ (λ j. e j ++ b j ∷ []) ∙ sym (take_more ys i 0 k)
+  pub no_item_decides : (r s : Option (Bor ℕ)) → IsItemAt xs i r → IsItemAt ys i s → Equal ≡ item_cmp r s → (i < length xs → i < length ys → get_or xs i 0 ≡ get_or ys i 0 → ⊥) → xs ≡ ys
+  no_item_decides None None a b e n = sym (take_all i xs (omega arith)) ∙ same_so_far ∙ take_all i ys (omega arith)
+  no_item_decides None (Some y) a b e n = cc
+  no_item_decides (Some x) None a b e n = cc
+  no_item_decides (Some x) (Some y) a b e n = absurd (n (omega arith) (omega arith) (grind (arith, nat_tests)))
 
-  pub same_all : SameSoFar i xs ys → length xs ≤ i → length ys ≤ i → xs ≡ ys
-  same_all e h k = sym (take_all i xs h) ∙ e ∙ take_all i ys k
+pub turned : (r s : Option (Bor ℕ)) → Greater ≡ item_cmp r s → Less ≡ item_cmp s r
+turned None None e = cc
+turned None (Some y) e = cc
+turned (Some x) None e = refl
+turned (Some x) (Some y) e = grind (arith, nat_tests)

@@ -1,21 +1,19 @@
-use Rattle.std.proofs.Common.{sym, arith}
-use Rattle.items.proofs.Comparisons.{decided_by_byte, decided_by_end, same_at, same_more, same_all}
+use Rattle.std.proofs.Common.{sym, ◌∙◌}
+use Rattle.items.proofs.Comparisons.{item_decides, no_item_decides, turned}
 use Rattle.items.proofs.comparing.compare.Goals as goal
 
-pub returns-then-left-i : goal.returns-then-left-i
-returns-then-left-i c = decided_by_byte c.loop-i.i c.args.left.now c.args.right.now c.loop-i.invariant (omega arith) (omega arith) c.if-left-i.true
+pub returns-in-Less : goal.returns-in-Less
+returns-in-Less c =
+    let s = c.same_count-index.ensures in
+    item_decides _ _ _ s.in_left s.in_right s.before _ _ c.get.ensures.lookup c.get-2.ensures.lookup (sym c.in-Less.is ∙ c.cmp.ensures)
 
-pub returns-then-left-i-2 : goal.returns-then-left-i-2
-returns-then-left-i-2 c = decided_by_byte c.loop-i.i c.args.right.now c.args.left.now (sym c.loop-i.invariant) (omega arith) (omega arith) c.if-left-i-2.true
+pub returns-in-Equal : goal.returns-in-Equal
+returns-in-Equal c =
+    let s = c.same_count-index.ensures in
+    no_item_decides _ _ _ s.in_left s.in_right s.before _ _ c.get.ensures.lookup c.get-2.ensures.lookup (sym c.in-Equal.is ∙ c.cmp.ensures) s.there
 
-pub loop-i-preserved : goal.loop-i-preserved
-loop-i-preserved c = same_more c.loop-i.i c.args.left.now c.args.right.now c.loop-i.invariant (omega arith) (omega arith) (omega arith)
-
-pub returns-then-left-right : goal.returns-then-left-right
-returns-then-left-right c = decided_by_end c.min-shorter.result c.args.left.now c.args.right.now (same_at c.loop-i.i c.min-shorter.result c.args.left.now c.args.right.now (omega arith) c.loop-i.invariant) (omega arith) (omega arith)
-
-pub returns-then-left-right-2 : goal.returns-then-left-right-2
-returns-then-left-right-2 c = decided_by_end c.min-shorter.result c.args.right.now c.args.left.now (sym (same_at c.loop-i.i c.min-shorter.result c.args.left.now c.args.right.now (omega arith) c.loop-i.invariant)) (omega arith) (omega arith)
-
-pub returns-else-left-right-2 : goal.returns-else-left-right-2
-returns-else-left-right-2 c = same_all _ c.args.left.now c.args.right.now c.loop-i.invariant (omega arith) (omega arith)
+pub returns-in-Greater : goal.returns-in-Greater
+returns-in-Greater c =
+    let s = c.same_count-index.ensures in
+    item_decides _ _ _ s.in_right s.in_left (λ k h. sym (s.before k h)) _ _ c.get-2.ensures.lookup c.get.ensures.lookup
+    (turned c.get.result c.get-2.result (sym c.in-Greater.is ∙ c.cmp.ensures))
