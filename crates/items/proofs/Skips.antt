@@ -1,12 +1,15 @@
 -- Items passed over: by the head that stands there, and what is in them.
-use Rattle.std.proofs.Common.{◌≡◌, ℕ, suc, ◌+◌, ◌-◌, ◌*◌, ◌/◌, ◌<◌, ◌≤◌, min, true, ◌&&◌, ◌⊎◌, List, [], ◌∷◌, ◌++◌, length, get_or, take, drop, Some, None, Option, sym, refl, ap, ◌∙◌, subst, arith, length-append}
+use Rattle.std.proofs.Common.{◌≡◌, ℕ, suc, ◌+◌, ◌-◌, ◌*◌, ◌/◌, ◌<◌, ◌≤◌, min, true, ◌&&◌, ◌⊎◌, List, [], ◌∷◌, ◌++◌, length, get_or, take, drop, Some, None, Option, Ok, Err, Result, Bor, sym, refl, ap, ◌∙◌, subst, arith, length-append}
+use Rattle.std.specs.Result.{result_ok}
+use Rattle.std.specs.Slice.{IsItemAt}
 use Rattle.std.proofs.lemmas.List.{append-nil}
 use Rattle.std.proofs.lemmas.Bool.{ltb-true, and_parts, and_from}
 use Rattle.cbor.specs.Item.{Item, unsigned, negative, byte_string, text_string, array, map, tag, simple, Items, no_item, more_items, Entries, no_entry, more_entries, how_many, how_many_entries}
 use Rattle.cbor.specs.Encoding.{major_number, to_bytes, head, encode, encode_items, encode_entries}
 use Rattle.cbor.specs.Valid.{word, valid_at, valid_items, valid_entries, ItemOf}
-use Rattle.cbor.specs.Prefix.{Any, StandsAt}
-use Rattle.cbor.specs.Reading.{HeadOf, Stopped}
+use Rattle.cbor.specs.Prefix.{StandsAt}
+use Rattle.cbor.specs.Reading.{HeadOf, HeadAt}
+use Rattle.cbor.specs.declared.reading.Head.{Head}
 use Rattle.cbor.specs.declared.reading.Stop.{Stop}
 use Rattle.cbor.proofs.Heads.{head_shape, head_free}
 use Rattle.cbor.proofs.Words.{free_two}
@@ -30,9 +33,16 @@ head_major m n bs at end (h, k, (e, l)) =
     let b : get_or bs at 0 ≡ 32 * m + s = cc in
     (i, omega arith)
 
--- where the reader of a head stopped there is none
-pub no_head_at : (m n : ℕ) (bs : List ℕ) (at end : ℕ) (s : Stop) → Stopped (Any (HeadOf m)) bs at s → StandsAt (HeadOf m n) bs at end → ⊥
-no_head_at m n bs at end s (h, stops) (k, l, w) = stops.unread (take (end - at) (drop at bs)) (drop end bs) (n, w) (part_rest bs at end k)
+-- what is lent of a place is what stands there
+lent_is : (bs : List ℕ) (at : ℕ) (x : Bor ℕ) → IsItemAt bs at (Some x) → x.now ≡ get_or bs at 0
+lent_is bs at x (a, b, c, d, e) = e (omega arith) 0
+
+-- where no head of the first byte's major type was read there is none
+pub no_head_there : (m : ℕ) (bs : List ℕ) (at : ℕ) (r : Result Head Stop) → HeadAt m bs at r → result_ok r ≡ None → (x : Bor ℕ) → IsItemAt bs at (Some x) → m ≡ x.now / 32 → HeadTold bs at None
+no_head_there m bs at (Ok h) told e x there f = cc
+no_head_there m bs at (Err s) (h, stops) e x there f = λ k n end l (a, b, w).
+    let g : k ≡ m = omega (arith, (head_major k n bs at end (a, b, w)).1, lent_is bs at x there) in
+    stops.unread (take (end - at) (drop at bs)) (drop end bs) (n, subst (λ j. HeadOf j n (take (end - at) (drop at bs))) g w) (part_rest bs at end a)
 
 -- two heads at one place are one
 pub head_once : (m n k : ℕ) (bs : List ℕ) (at end mid : ℕ) → StandsAt (HeadOf m n) bs at end → StandsAt (HeadOf m k) bs at mid → (n ≡ k) × (end ≡ mid)
@@ -249,10 +259,6 @@ doubled d n k bs at r l e s = record {
 
 -- THE LOOP
 
--- no depth is left
-pub items_deep : (n : ℕ) (bs : List ℕ) (at : ℕ) → SkipsItems 0 n bs at None
-items_deep n bs at = record { ends = λ is end c st. absurd (let z = st.2.1 in omega arith); within = tt }
-
 no_items_end : (d : ℕ) (bs : List ℕ) (at : ℕ) (is : Items) (end : ℕ) → how_many is ≡ 0 → StandsAt (InnerOf d is) bs at end → at ≡ end
 unfolding how_many encode_items
 no_items_end d bs at no_item end c (h, k, (e, l, v)) = (let z = part_length bs at end h k in let y = ap length e in omega arith)
@@ -262,40 +268,37 @@ pub items_none : (d n : ℕ) (bs : List ℕ) (at : ℕ) → n ≡ 0 → at ≤ l
 items_none d n bs at e l = record { ends = λ is end c st. ap Some (no_items_end d bs at is end (c ∙ e) st); within = (omega arith, l) }
 
 -- the first of some items, and those after it
-abbrev Unfolds : ℕ → List ℕ → ℕ → ℕ → ℕ → Type 0
-Unfolds d bs at end n = (i : Item) × (is : Items) × (mid : ℕ) × StandsAt (ItemOf (d - 1) i) bs at mid × (suc (how_many is) ≡ n) × StandsAt (InnerOf d is) bs mid end
+abbrev Unfolds : ℕ → ℕ → List ℕ → ℕ → ℕ → ℕ → Type 0
+Unfolds d inner bs at end n = (i : Item) × (is : Items) × (mid : ℕ) × StandsAt (ItemOf inner i) bs at mid × (suc (how_many is) ≡ n) × StandsAt (InnerOf d is) bs mid end
 
-items_open : (d n : ℕ) (bs : List ℕ) (at : ℕ) (is : Items) (end : ℕ) → 0 < n → how_many is ≡ n → StandsAt (InnerOf d is) bs at end → Unfolds d bs at end n
-unfolding how_many encode_items valid_items
-items_open d n bs at no_item end h c st = absurd (omega arith)
-items_open d n bs at (more_items i is) end h c (a, b, (e, l, v)) =
-    let p = and_parts (valid_at (d - 1) i) (valid_items (d - 1) is) v in
-    let (m, x, y) = part_split bs (encode i) (encode_items is) at end a b e in
-    (i, is, at + length (encode i), (omega arith, omega arith, (x, p.0)), c, (m, b, (y, l, p.1)))
+module _ (d inner n : ℕ) (bs : List ℕ) (at : ℕ) (less : inner ≡ d - 1) where
+  items_open : (is : Items) (end : ℕ) → 0 < n → how_many is ≡ n → StandsAt (InnerOf d is) bs at end → Unfolds d inner bs at end n
+  unfolding how_many encode_items valid_items
+  items_open no_item end h c st = absurd (omega arith)
+  items_open (more_items i is) end h c (a, b, (e, l, v)) =
+      let p = and_parts (valid_at (d - 1) i) (valid_items (d - 1) is) v in
+      let (m, x, y) = part_split bs (encode i) (encode_items is) at end a b e in
+      (i, is, at + length (encode i), (omega arith, omega arith, (x, rw less p.0)), c, (m, b, (y, l, p.1)))
 
-some_is : (a b : ℕ) → Some a ≡ Some b → a ≡ b
-some_is a b e = cc
+  pub items_stop : 0 < n → Skips inner bs at None → SkipsItems d n bs at None
+  items_stop h s = record {
+    ends = λ is end c st.
+        let (i, later, mid, a, k, b) = items_open is end h c st in
+        let z = s.ends i mid a in
+        cc;
+    within = tt;
+  }
 
-never_some : {X : Type 0} (a : ℕ) → None ≡ Some a → X
-never_some a e = let z : ◌≡◌ {A = ℕ} 0 1 = cc in absurd (omega arith)
-
-pub items_stop : (d n : ℕ) (bs : List ℕ) (at : ℕ) → 0 < n → Skips (d - 1) bs at None → SkipsItems d n bs at None
-items_stop d n bs at h s = record {
-  ends = λ is end c st.
-      let (i, later, mid, a, k, b) = items_open d n bs at is end h c st in
-      never_some mid (s.ends i mid a);
-  within = tt;
-}
-
-pub items_more : (d n : ℕ) (bs : List ℕ) (at mid : ℕ) (r : Option ℕ) → 0 < n → Skips (d - 1) bs at (Some mid) → SkipsItems d (n - 1) bs mid r → SkipsItems d n bs at r
-items_more d n bs at mid r h s t = record {
-  ends = λ is end c st.
-      let (i, later, stop, a, k, b) = items_open d n bs at is end h c st in
-      let e : mid ≡ stop = some_is mid stop (s.ends i stop a) in
-      t.ends later end (omega arith) (subst (λ x. StandsAt (InnerOf d later) bs x end) (sym e) b);
-  within = before r t.within;
-}
-  where
-    before : (r : Option ℕ) → EndsWithin bs mid r → EndsWithin bs at r
-    before (Some end) (a, b) = (let z = s.within.0 in (omega arith, b))
-    before None w = tt
+  pub items_more : (k mid : ℕ) (r : Option ℕ) → n ≡ suc k → Skips inner bs at (Some mid) → SkipsItems d k bs mid r → SkipsItems d n bs at r
+  items_more k mid r h s t = record {
+    ends = λ is end c st.
+        let (i, later, stop, a, l, b) = items_open is end (omega arith) c st in
+        let z = s.ends i stop a in
+        let e : mid ≡ stop = cc in
+        t.ends later end (omega arith) (subst (λ x. StandsAt (InnerOf d later) bs x end) (sym e) b);
+    within = before r t.within;
+  }
+    where
+      before : (r : Option ℕ) → EndsWithin bs mid r → EndsWithin bs at r
+      before (Some end) (a, b) = (let z = s.within.0 in (omega arith, b))
+      before None w = tt

@@ -1,12 +1,13 @@
 -- Texts byte by byte: what begins one of a length, and what goes on with none.
-use Rattle.std.proofs.Common.{◌≡◌, ℕ, zero, suc, ◌+◌, ◌-◌, ◌<◌, ◌≤◌, Bool, true, false, ◌&&◌, leb, ◌⊎◌, List, [], ◌∷◌, ◌++◌, length, get_or, take, drop, replicate, Ok, Err, Result, sym, refl, ap, ◌∙◌, subst, inl, inr, arith, length-append}
-use Rattle.std.proofs.lemmas.List.{length-replicate, length-take-le, take_all, take_more}
-use Rattle.std.proofs.lemmas.Bool.{le-leb, leb-true, and_parts, and_from, lt-ltb, cases_lt, both_ways}
+use Rattle.std.proofs.Common.{◌≡◌, ℕ, zero, suc, ◌+◌, ◌-◌, ◌<◌, ◌≤◌, Bool, true, false, ◌&&◌, leb, List, [], ◌∷◌, ◌++◌, length, get_or, take, drop, replicate, Ok, Err, Result, Option, min, ltb, sym, refl, ap, ◌∙◌, subst, inl, inr, arith, length-append}
+use Rattle.std.proofs.lemmas.List.{length-replicate, length-take-le, length-take, take_min, get_or-take, take_all, take_more}
+use Rattle.std.proofs.lemmas.Bool.{le-leb, leb-true, and_parts, and_from, lt-ltb, le-ltb, ne_eqb, cases_lt, both_ways}
+use Rattle.std.specs.Bool.{then_some}
 use Rattle.cbor.specs.Prefix.{Begins}
 use Rattle.cbor.specs.Utf8.{Range, tail, second, leads, tails, first_in, utf8_after, TextOf}
 use Rattle.cbor.proofs.Places.{part_more, at_first}
-use Rattle.cbor.proofs.Utf8.{first_in_parts, tails_three, tails_four, Fair, tails_fair}
-use Rattle.items.specs.Text.{Runs, part, ByteTold, TailsTold, CharTold, Blocks}
+use Rattle.cbor.proofs.Utf8.{first_in_parts, Fair, tails_fair}
+use Rattle.items.specs.Text.{Runs, part, ByteIn, TailsTold, CharTold, FirstWrong, Blocks}
 
 -- RUNS
 
@@ -122,40 +123,56 @@ pub stays : (bs : List ℕ) (at : ℕ) (rs : List Range) → Runs rs (part bs at
 unfolding Runs
 stays bs at rs = subst (λ w. Runs rs w rs) (sym (part_none bs at)) refl
 
-byte_runs : (r : Range) (rs : List Range) (bs : List ℕ) (at end : ℕ) → ByteTold r bs at (Ok end) → Runs (r ∷ rs) (part bs at end) rs
-unfolding Runs
-byte_runs r rs bs at end (e, l, h, k) = subst (λ n. Runs (r ∷ rs) (part bs at n) rs) (sym e) (subst (λ w. Runs (r ∷ rs) w rs) (sym (part_one bs at l)) (h, k, refl))
+-- THE BYTES AFTER A CHARACTER'S FIRST
 
--- a byte in its range, and then those after it
-pub tails_next : (r : Range) (rs : List Range) (bs : List ℕ) (at mid : ℕ) (t : Result ℕ ℕ) → ByteTold r bs at (Ok mid) → TailsTold rs bs mid t → TailsTold (r ∷ rs) bs at t
-tails_next r rs bs at mid (Ok end) b (e, l, p) = (omega arith, l, part_runs bs at mid end (r ∷ rs) rs [] (omega arith) (omega arith) (byte_runs r rs bs at mid b) p)
-tails_next r rs bs at mid (Err p) b ((h, k), (s, later, q, e, f)) =
-    ((omega arith, k), (s, later, part_runs bs at mid p (r ∷ rs) rs (s ∷ later) (omega arith) h (byte_runs r rs bs at mid b) q, omega arith, f))
+-- one range, and then each byte from 128 to 191
+abbrev pub Follows : Range → List Range → Type 0
+Follows r [] = Unit {0}
+Follows r (q ∷ rs) = (q ≡ r) × Follows tail rs
 
--- or none in it
-pub tails_stop : (r : Range) (rs : List Range) (bs : List ℕ) (at p : ℕ) → at ≤ length bs → ByteTold r bs at (Err p) → TailsTold (r ∷ rs) bs at (Err p)
-tails_stop r rs bs at p l (e, f) =
-    subst (λ n. TailsTold (r ∷ rs) bs at (Err n)) (sym e) ((omega arith, l), (r, rs, stays bs at (r ∷ rs), omega arith, f))
+pub tails_follow : (a : ℕ) → Follows (second a) (tails a)
+tails_follow a = elim (cases_lt a 128) [
+  | inl h ↦ rw (lt-ltb a 128 h) tt
+  | inr h ↦ elim (cases_lt a 224) [
+    | inl l ↦ rw (le-ltb a 128 h, lt-ltb a 224 l, ne_eqb a 224 (omega arith), ne_eqb a 237 (omega arith), ne_eqb a 240 (omega arith), ne_eqb a 244 (omega arith)) (refl, tt)
+    | inr l ↦ elim (cases_lt a 240) [ inl k ↦ rw (le-ltb a 128 h, le-ltb a 224 l, lt-ltb a 240 k) (refl, (refl, tt)) | inr k ↦ rw (le-ltb a 128 h, le-ltb a 224 l, le-ltb a 240 k) (refl, (refl, (refl, tt))) ]
+  ]
+]
 
-pub tails_last : (r : Range) (bs : List ℕ) (at : ℕ) (t : Result ℕ ℕ) → at ≤ length bs → ByteTold r bs at t → TailsTold (r ∷ []) bs at t
-tails_last r bs at (Ok end) l b = tails_next r [] bs at end (Ok end) b (omega arith, (omega arith), stays bs end [])
-tails_last r bs at (Err p) l b = tails_stop r [] bs at p l b
+-- the bytes up to a place are in their ranges, and the next one has to be in this one
+abbrev pub Pending : List Range → List ℕ → ℕ → Range → ℕ → ℕ → Type 0
+Pending all bs at r place end = (place ≤ length bs) × ((rs : List Range) × Runs all (part bs at place) rs × Follows r rs × (place + length rs ≡ end))
 
--- BY THE FIRST BYTE
+pub pending_start : (a : ℕ) (bs : List ℕ) (at end : ℕ) (r : Range) → at ≤ length bs → r ≡ second a → end ≡ at + length (tails a) → Pending (tails a) bs at r at end
+pending_start a bs at end r l e f = (l, (tails a, stays bs at (tails a), rw e (tails_follow a), sym f))
 
--- the second byte is missing or wrong, whatever comes after it
-pub tails_second : (a : ℕ) → 224 ≤ a → (rs : List Range) × (tails a ≡ second a ∷ rs)
-tails_second a h = elim (cases_lt a 240) [ inl l ↦ (tail ∷ [], tails_three a h l) | inr l ↦ (tail ∷ tail ∷ [], tails_four a l) ]
+module _ (all : List Range) (bs : List ℕ) (at : ℕ) (r : Range) (place end : ℕ) (after : at ≤ place) where
+  pub pending_more : place < end → Pending all bs at r place end → ByteIn r bs place true → Pending all bs at tail (place + 1) end
+  unfolding Runs
+  pending_more h (l, ([], p, f, e)) b = absurd (omega arith)
+  pending_more h (l, (q ∷ rs, p, (g, f), e)) (i, a, b) =
+      (omega arith, (rs, part_runs bs at place (place + 1) all (q ∷ rs) rs after (omega arith) p (rw (part_one bs place i, g) (a, b, refl)), f, omega arith))
+
+  pub pending_stop : place < end → Pending all bs at r place end → end ≡ at + length all → ByteIn r bs place false → TailsTold all bs at (Err place)
+  pending_stop h (l, ([], p, f, e)) t n = absurd (omega arith)
+  pending_stop h (l, (q ∷ rs, p, (g, f), e)) t n = ((after, l), (q, rs, p, omega arith, rw g n))
 
 -- CHARACTERS
 
-plain_runs : (b : ℕ) → b < 128 → Runs [] (b ∷ []) []
+-- bytes below 128, each a character
+plain_runs : (u : List ℕ) (n : ℕ) → n ≤ length u → ((k : ℕ) → k < n → get_or u k 0 < 128) → Runs [] (take n u) []
 unfolding Runs
-plain_runs b h = (rw (lt-ltb b 128 h), rw (lt-ltb b 128 h))
+plain_runs u zero l h = refl
+plain_runs [] (suc n) l h = absurd (omega arith)
+plain_runs (b ∷ u) (suc n) l h =
+    let z : b < 128 = h 0 (omega arith) in
+    rw (lt-ltb b 128 z) (refl, plain_runs u n (omega arith) (λ k l. h (suc k) (omega arith)))
 
--- a byte below 128 more
-pub plain_more : (bs : List ℕ) (from at : ℕ) → from ≤ at → at < length bs → Runs [] (part bs from at) [] → get_or bs at 0 < 128 → Runs [] (part bs from (at + 1)) []
-plain_more bs from at h l p k = part_runs bs from at (at + 1) [] [] [] h (omega arith) p (subst (λ w. Runs [] w []) (sym (part_one bs at l)) (plain_runs (get_or bs at 0) k))
+pub plain_part : (bs : List ℕ) (from end size n : ℕ) → end ≡ from + n → n ≤ length (take size (drop from bs)) → ((k : ℕ) → k < n → get_or (take size (drop from bs)) k 0 < 128) → Runs [] (part bs from end) []
+plain_part bs from end size n e l h =
+    let z : end - from ≡ n = omega arith in
+    let s : (n ≤ size) × (n ≤ length (drop from bs)) = omega (arith, length-take {A = ℕ}) in
+    rw z (plain_runs (drop from bs) n s.1 (λ k g. subst (λ b. b < 128) (get_or-take size (drop from bs) k 0 (omega arith)) (h k g)))
 
 module _ (left : ℕ) (bs : List ℕ) (at : ℕ) (inside : at < length bs) where
   -- none begins there
@@ -167,11 +184,6 @@ module _ (left : ℕ) (bs : List ℕ) (at : ℕ) (inside : at < length bs) where
   first_runs : leads (get_or bs at 0) ≡ true → Runs [] (part bs at (at + 1)) (tails (get_or bs at 0))
   unfolding Runs
   first_runs h = subst (λ w. Runs [] w (tails (get_or bs at 0))) (sym (part_one bs at inside)) (h, refl)
-
-  pub char_plain : first_in left (get_or bs at 0) ≡ true → get_or bs at 0 < 128 → CharTold left bs at (Ok (at + 1))
-  char_plain h k =
-      let r = (first_in_parts left (get_or bs at 0) h).1 in
-      (omega arith, omega arith, omega arith, subst (λ w. Runs [] w []) (sym (part_one bs at inside)) (plain_runs (get_or bs at 0) k))
 
   pub char_tails : (t : Result ℕ ℕ) → first_in left (get_or bs at 0) ≡ true → TailsTold (tails (get_or bs at 0)) bs (at + 1) t → CharTold left bs at t
   char_tails (Ok end) h (e, l, p) =
@@ -192,7 +204,7 @@ module _ (n : ℕ) (bs : List ℕ) (at : ℕ) (before : Runs [] (part bs 0 at) [
   chars_more next end h k a b = part_runs bs 0 next end [] [] [] (omega arith) k (part_runs bs 0 at next [] [] [] (omega arith) h before a) b
 
   -- no character goes on
-  pub char_wrong : (p : ℕ) → at < n → p < length bs → CharTold (n - at) bs at (Err p) → (p < n) × (p < length bs) × Begins (TextOf n) (take p bs) × (Begins (TextOf n) (take (suc p) bs) → ⊥)
+  char_wrong : (p : ℕ) → at < n → p < length bs → CharTold (n - at) bs at (Err p) → (p < n) × (p < length bs) × Begins (TextOf n) (take p bs) × (Begins (TextOf n) (take (suc p) bs) → ⊥)
   char_wrong p h l ((k, m), (rs, q, e, o, f)) =
       let z = o (omega arith) in
       let r : Runs [] (take p bs) rs = subst (λ w. Runs [] w rs) (front bs p) (part_runs bs 0 at p [] [] rs (omega arith) k before q) in
@@ -202,19 +214,20 @@ module _ (n : ℕ) (bs : List ℕ) (at : ℕ) (before : Runs [] (part bs 0 at) [
       (omega arith, l, runs_begin n (take p bs) rs r (omega arith), λ g. blocked n (take p bs) (get_or bs p 0) rs r (subst (λ j. Blocks j rs (get_or bs p 0)) w (f l)) (subst (Begins (TextOf n)) t g))
 
   -- all of the bytes begin a text
-  pub char_cut : (p : ℕ) → at < n → length bs ≤ p → CharTold (n - at) bs at (Err p) → Begins (TextOf n) (take n bs)
+  char_cut : (p : ℕ) → at < n → length bs ≤ p → CharTold (n - at) bs at (Err p) → Begins (TextOf n) (take n bs)
   char_cut p h l ((k, m), (rs, q, e, o, f)) =
       let r : Runs [] (take p bs) rs = subst (λ w. Runs [] w rs) (front bs p) (part_runs bs 0 at p [] [] rs (omega arith) k before q) in
       let y = length-take-le p bs m in
       let t : take p bs ≡ take n bs = take_all p bs l ∙ sym (take_all n bs (omega arith)) in
       subst (Begins (TextOf n)) t (runs_begin n (take p bs) rs r (omega arith))
 
-  pub chars_whole : at ≤ n → at ≤ length bs → (n ≤ at) ⊎ (length bs ≤ at) → Begins (TextOf n) (take n bs)
-  chars_whole h l (inl g) =
-      let z : at ≡ n = omega arith in
-      let y = length-take-le n bs (omega arith) in
-      runs_begin n (take n bs) [] (subst (λ w. Runs [] w []) (front bs at ∙ ap (λ j. take j bs) z) before) (omega arith)
-  chars_whole h l (inr g) =
-      let t : take at bs ≡ take n bs = take_all at bs g ∙ sym (take_all n bs (omega arith)) in
-      let y = length-take-le at bs l in
-      subst (Begins (TextOf n)) t (runs_begin n (take at bs) [] (subst (λ w. Runs [] w []) (front bs at) before) (omega arith))
+  pub char_stop : (p : ℕ) (r : Option ℕ) → at < n → CharTold (n - at) bs at (Err p) → r ≡ then_some (ltb p (length bs)) p → FirstWrong n bs r
+  char_stop p r h c e = elim (cases_lt p (length bs)) [
+    | inl l ↦ rw (e, lt-ltb p (length bs) l) (char_wrong p h l c)
+    | inr l ↦ rw (e, le-ltb p (length bs) l) (char_cut p h l c)
+  ]
+
+  pub chars_whole : at ≡ min n (length bs) → Begins (TextOf n) (take n bs)
+  chars_whole e =
+      let t : take at bs ≡ take n bs = ap (λ j. take j bs) e ∙ take_min n bs in
+      runs_begin n (take n bs) [] (subst (λ w. Runs [] w []) (front bs at ∙ t) before) (omega (arith, length-take n bs))

@@ -1,5 +1,5 @@
 -- What is told of the bytes of a text.
-use Rattle.std.specs.Prelude.{◌≡◌, ℕ, suc, ◌+◌, ◌-◌, ◌<◌, ◌≤◌, true, List, [], ◌∷◌, length, take, Some, None, Ok, Err, Option, Result, slice_index, slice_range}
+use Rattle.std.specs.Prelude.{◌≡◌, ℕ, suc, ◌+◌, ◌-◌, ◌<◌, ◌≤◌, Bool, true, false, List, [], ◌∷◌, length, take, Some, None, Ok, Err, Option, Result, slice_index, slice_range}
 use Rattle.cbor.specs.Prefix.{Begins}
 use Rattle.cbor.specs.Utf8.{Range, leads, tails, first_in, TextOf}
 
@@ -22,9 +22,10 @@ part bs at end = slice_range bs at end
 abbrev pub Within : List ℕ → ℕ → ℕ → Type 0
 Within bs at end = (at ≤ end) × (end ≤ length bs)
 
-abbrev pub ByteTold : Range → List ℕ → ℕ → Result ℕ ℕ → Type 0
-ByteTold r bs at (Ok end) = (end ≡ at + 1) × (at < length bs) × (r.0 ≤ slice_index bs at) × (slice_index bs at ≤ r.1)
-ByteTold r bs at (Err p) = (p ≡ at) × (at < length bs → r.0 ≤ slice_index bs at → slice_index bs at ≤ r.1 → ⊥)
+-- whether a byte in a range stands there
+abbrev pub ByteIn : Range → List ℕ → ℕ → Bool → Type 0
+ByteIn r bs at true = (at < length bs) × (r.0 ≤ slice_index bs at) × (slice_index bs at ≤ r.1)
+ByteIn r bs at false = at < length bs → r.0 ≤ slice_index bs at → slice_index bs at ≤ r.1 → ⊥
 
 -- a byte in each of some ranges, or the place of the first that is missing or not in its range
 abbrev pub TailsTold : List Range → List ℕ → ℕ → Result ℕ ℕ → Type 0
@@ -40,7 +41,3 @@ Blocks left (r ∷ rs) b = r.0 ≤ b → b ≤ r.1 → ⊥
 abbrev pub CharTold : ℕ → List ℕ → ℕ → Result ℕ ℕ → Type 0
 CharTold left bs at (Ok end) = (at < end) × (end ≤ length bs) × (end - at ≤ left) × Runs [] (part bs at end) []
 CharTold left bs at (Err p) = Within bs at p × ((rs : List Range) × Runs [] (part bs at p) rs × (p - at + length rs ≤ left) × (0 < left → p - at < left) × (p < length bs → Blocks (left - (p - at)) rs (slice_index bs p)))
-
--- bytes below 128, each a character
-abbrev pub PlainTo : List ℕ → ℕ → ℕ → ℕ → Type 0
-PlainTo bs from to end = (from ≤ end) × (end ≤ to) × Runs [] (part bs from end) []

@@ -36,13 +36,8 @@ pub fn major_of(number: u8) -> Major
 pub fn head_at(bytes: &[u8], at: usize) -> Option<ItemHead>
     ensures { HeadTold bytes.now at result }
 {
-    if at >= bytes.len() {
-        return None;
-    }
-    let major = major_of(bytes[at] >> 5);
-    let Ok(head) = read_head(bytes, at, major) else {
-        return None;
-    };
+    let major = major_of(*bytes.get(at)? >> 5);
+    let head = read_head(bytes, at, major).ok()?;
     Some(ItemHead {
         major,
         argument: head.argument,
@@ -82,17 +77,10 @@ fn skip_items(bytes: &[u8], at: usize, count: u64, depth: u8) -> Option<usize>
     requires { at ≤ length bytes.now }
     ensures { SkipsItems depth count bytes.now at result }
 {
-    if depth == 0 {
-        return None;
-    }
+    let inner = depth.checked_sub(1)?;
     let mut next = at;
-    let mut left = count;
-    'items: loop {
-        if left == 0 {
-            break 'items;
-        }
-        next = skip(bytes, next, depth - 1)?;
-        left -= 1;
+    for _ in 0..count {
+        next = skip(bytes, next, inner)?;
     }
     Some(next)
 }

@@ -35,11 +35,11 @@ skip-returns-in-Tag t c =
 
 pub skip_items-returns-in_err-next : goal.skip_items-returns-in_err-next
 skip_items-returns-in_err-next t c =
-    rw c.from_residual.ensures (c.items.invariant.1 None (items_stop c.args.depth c.items.left c.args.bytes.now c.items.next (omega arith) c.in_err-next.ensures))
+    rw c.from_residual-in_err-next.ensures (c.loop.invariant.1 None (items_stop c.args.depth _ _ c.args.bytes.now c.loop.next (omega arith) (omega arith) c.in_err-next.ensures))
 
-pub skip_items-items-preserved : goal.skip_items-items-preserved
-skip_items-items-preserved t c =
-    (c.in_ok-next.ensures.within.1, λ r s. c.items.invariant.1 r (items_more c.args.depth c.items.left c.args.bytes.now c.items.next c.in_ok-next.next r (omega arith) c.in_ok-next.ensures s))
+pub skip_items-loop-preserved : goal.skip_items-loop-preserved
+skip_items-loop-preserved t c =
+    (c.in_ok-next.ensures.within.1, λ r s. c.loop.invariant.1 r (items_more c.args.depth _ _ c.args.bytes.now c.loop.next (omega arith) _ c.in_ok-next.next r (omega arith) c.in_ok-next.ensures s))
 
 pub skip_items-returns : goal.skip_items-returns
-skip_items-returns t c = c.items.invariant.1 (Some c.items.next) (items_none c.args.depth c.items.left c.args.bytes.now c.items.next c.if-left-eq0.true c.items.invariant.0)
+skip_items-returns t c = c.loop.invariant.1 (Some c.loop.next) (items_none c.args.depth _ c.args.bytes.now c.loop.next (omega arith) c.loop.invariant.0)

@@ -1,15 +1,7 @@
-use Rattle.std.proofs.Common.{◌≡◌, subst, arith}
+use Rattle.std.proofs.Common.{sym, ◌∙◌, arith}
 use Rattle.cbor.specs.Encoding.{major_number}
-use Rattle.cbor.specs.Prefix.{StandsAt}
-use Rattle.cbor.specs.Reading.{HeadOf}
-use Rattle.items.proofs.Skips.{head_major, no_head_at}
+use Rattle.items.proofs.Skips.{no_head_there}
 use Rattle.items.proofs.skipping.head_at.Goals as goal
 
-pub returns-in_default : goal.returns-in_default
-returns-in_default c = λ m n end l st.
-    let bs = c.args.bytes.now in
-    let at = c.args.at in
-    let (h, e) = head_major m n bs at end st in
-    let b = c.type_inv.bytes at in
-    let f : m ≡ major_number c.major_of-major.result = omega (arith, c.major_of-major.ensures (omega arith)) in
-    no_head_at (major_number c.major_of-major.result) n bs at end c.in_default.field-0 c.in_default.ensures (subst (λ k. StandsAt (HeadOf k n) bs at end) f st)
+pub returns-in_err-head : goal.returns-in_err-head
+returns-in_err-head c = rw c.from_residual-in_err-head.ensures (no_head_there (major_number c.major_of-major.result) c.args.bytes.now c.args.at c.read_head.result c.read_head.ensures (sym c.ok.ensures.value ∙ c.in_err-head.was) c.in_ok-get.field-0 c.in_ok-get.ensures.lookup (omega arith))

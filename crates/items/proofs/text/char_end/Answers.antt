@@ -1,12 +1,9 @@
 use Rattle.std.proofs.Common.{sym}
-use Rattle.items.proofs.Texts.{char_none, char_plain, char_tails}
+use Rattle.items.proofs.Texts.{char_none, char_tails}
 use Rattle.items.proofs.text.char_end.Goals as goal
 
 pub returns-then-not-has_room : goal.returns-then-not-has_room
 returns-then-not-has_room c = char_none c.args.left c.args.bytes.now c.args.at c.requires (sym c.if-not-has_room.ensures)
-
-pub returns-then-first-lt128 : goal.returns-then-first-lt128
-returns-then-first-lt128 c = char_plain c.args.left c.args.bytes.now c.args.at c.requires (sym c.if-not-has_room.ensures) c.if-first-lt128.true
 
 pub returns : goal.returns
 returns c = char_tails c.args.left c.args.bytes.now c.args.at c.requires c.tails_end.result (sym c.if-not-has_room.ensures) c.tails_end.ensures
