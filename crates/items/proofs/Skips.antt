@@ -8,7 +8,7 @@ use Rattle.cbor.specs.Item.{Item, unsigned, negative, byte_string, text_string, 
 use Rattle.cbor.specs.Encoding.{major_number, to_bytes, head, encode, encode_items, encode_entries}
 use Rattle.cbor.specs.Valid.{word, valid_at, valid_items, valid_entries, ItemOf}
 use Rattle.cbor.specs.Prefix.{StandsAt}
-use Rattle.cbor.specs.Reading.{HeadOf, HeadAt}
+use Rattle.cbor.specs.Reading.{HeadOf, HeadAt, BytesEnd}
 use Rattle.cbor.specs.declared.reading.Head.{Head}
 use Rattle.cbor.specs.declared.reading.Stop.{Stop}
 use Rattle.cbor.proofs.Heads.{head_shape, head_free}
@@ -17,7 +17,7 @@ use Rattle.cbor.proofs.Places.{part_rest, part_length, part_split, at_first}
 use Rattle.cbor.proofs.Valid.{simple_word, nested_parts, entry_parts}
 use Rattle.cbor.proofs.Items.{encode_not_empty}
 use Rattle.items.specs.declared.skipping.ItemHead.{ItemHead}
-use Rattle.items.specs.Skipping.{HeadTold, EndsWithin, Skips, InnerOf, SkipsItems, SkipsBytes}
+use Rattle.items.specs.Skipping.{HeadTold, EndsWithin, Skips, InnerOf, SkipsItems}
 
 -- HEADS
 
@@ -228,7 +228,7 @@ module _ (d : ℕ) (bs : List ℕ) (at : ℕ) (h : ItemHead) (there : HeadTold b
   pub skips_plain : (major_number h.major ≡ 0) ⊎ ((major_number h.major ≡ 1) ⊎ (major_number h.major ≡ 7)) → Skips d bs at (Some h.next)
   skips_plain m = skips_by d bs at h (Some h.next) there (omega arith, there.0.1) (λ i end v e n st. ap Some (let z = ends_at bs h.next end 0 (body_in i) st (plain_body i (major_number h.major) e m) in let y : h.next ≡ end = omega arith in y))
 
-  pub skips_string : (r : Option ℕ) → (major_number h.major ≡ 2) ⊎ (major_number h.major ≡ 3) → SkipsBytes h.argument bs h.next r → Skips d bs at r
+  pub skips_string : (r : Option ℕ) → (major_number h.major ≡ 2) ⊎ (major_number h.major ≡ 3) → BytesEnd h.argument bs h.next r → Skips d bs at r
   skips_string (Some end) m (e, l) =
       skips_by d bs at h (Some end) there (omega arith, l) (λ i stop v f n st. ap Some (let z = ends_at bs h.next stop (argument_in i) (body_in i) st (string_body i (major_number h.major) f m) in let y : end ≡ stop = omega arith in y))
   skips_string None m l =

@@ -1,5 +1,5 @@
 -- What is told of heads and items that stand at a place.
-use Rattle.std.specs.Prelude.{◌≡◌, ℕ, ◌+◌, ◌-◌, ◌<◌, ◌≤◌, true, List, length, Some, None, Option}
+use Rattle.std.specs.Prelude.{◌≡◌, ℕ, ◌-◌, ◌<◌, ◌≤◌, true, List, length, Some, None, Option}
 use Rattle.std.specs.Borrow.{Bor}
 use Rattle.cbor.specs.Item.{Item, Items, how_many}
 use Rattle.cbor.specs.Encoding.{major_number, encode, encode_items}
@@ -31,10 +31,6 @@ InnerOf d is w = (w ≡ encode_items is) × (0 < d) × (valid_items (d - 1) is �
 pub record SkipsItems (d n : ℕ) (bs : List ℕ) (at : ℕ) (r : Option ℕ) : Type 0 where
   pub ends : (is : Items) (end : ℕ) → how_many is ≡ n → StandsAt (InnerOf d is) bs at end → r ≡ Some end
   pub within : EndsWithin bs at r
-
-abbrev pub SkipsBytes : ℕ → List ℕ → ℕ → Option ℕ → Type 0
-SkipsBytes n bs at (Some end) = (end ≡ at + n) × (end ≤ length bs)
-SkipsBytes n bs at None = length bs < at + n
 
 -- the bytes of the valid item that stands there
 abbrev pub PartTold : List ℕ → ℕ → Option (Bor (List ℕ)) → Type 0

@@ -13,8 +13,8 @@ skip-returns-in-Unsigned t c =
 
 pub skip-returns-in-Bytes : goal.skip-returns-in-Bytes
 skip-returns-in-Bytes t c =
-    skips_string c.args.depth c.args.bytes.now c.args.at c.in_ok-head.head c.in_ok-head.ensures c.skip_bytes.result
-    (elim c.in-Bytes.is [ inl e ↦ inl (ap major_number e) | inr e ↦ inr (ap major_number e) ]) c.skip_bytes.ensures
+    skips_string c.args.depth c.args.bytes.now c.args.at c.in_ok-head.head c.in_ok-head.ensures c.bytes_end.result
+    (elim c.in-Bytes.is [ inl e ↦ inl (ap major_number e) | inr e ↦ inr (ap major_number e) ]) c.bytes_end.ensures
 
 pub skip-returns-in-Array : goal.skip-returns-in-Array
 skip-returns-in-Array t c =
