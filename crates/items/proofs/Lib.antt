@@ -1,3 +1,3 @@
-mod Texts
 mod Comparisons
+pub mod Texts
 pub mod Skips

@@ -34,7 +34,7 @@ head_major m n bs at end (h, k, (e, l)) =
     (i, omega arith)
 
 -- what is lent of a place is what stands there
-lent_is : (bs : List ℕ) (at : ℕ) (x : Bor ℕ) → IsItemAt bs at (Some x) → x.now ≡ get_or bs at 0
+pub lent_is : (bs : List ℕ) (at : ℕ) (x : Bor ℕ) → IsItemAt bs at (Some x) → x.now ≡ get_or bs at 0
 lent_is bs at x (a, b, c, d, e) = e (omega arith) 0
 
 -- where no head of the first byte's major type was read there is none

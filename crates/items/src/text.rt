@@ -12,7 +12,8 @@ pub struct ByteRange {
     pub high: u8,
 }
 
-const TAIL: ByteRange = ByteRange {
+// Each byte after a character's second one.
+pub const TAIL: ByteRange = ByteRange {
     low: 0x80,
     high: 0xbf,
 };

@@ -1,7 +1,6 @@
 -- Items by their heads, at places.
-use Rattle.std.proofs.Common.{◌≡◌, ℕ, zero, suc, ◌+◌, ◌-◌, ◌<◌, ◌≤◌, true, cond, eqb, List, ◌++◌, length, take, drop, Some, None, Option, sym, refl, ap, ◌∙◌, subst, arith, length-append}
+use Rattle.std.proofs.Common.{◌≡◌, ℕ, zero, suc, ◌+◌, ◌-◌, ◌<◌, ◌≤◌, true, List, ◌++◌, length, take, drop, Some, None, Option, sym, refl, ap, ◌∙◌, subst, arith, length-append}
 use Rattle.std.proofs.lemmas.List.{take_at, drop_at, drop-drop, length-drop}
-use Rattle.std.proofs.lemmas.Bool.{cond_both}
 use Rattle.cbor.specs.declared.Major.{Major}
 use Rattle.cbor.specs.declared.Major.TheVariants.{Unsigned, Negative, Bytes, Text, Array, Map, Tag, Simple}
 use Rattle.cbor.specs.Encoding.{all_bytes, major_number}
@@ -16,12 +15,12 @@ use Rattle.items.specs.Skipping.{HeadTold}
 use Rattle.items.proofs.Skips.{head_major, head_once}
 use Rattle.prefixes.specs.Words.{joined, reach_of_head}
 use Rattle.prefixes.specs.Shapes.{major_of, HeadFits, HeadFor}
-use Rattle.prefixes.specs.Walks.{Told, done, cut, wrong, Holds, on_told, carry, capped, after_of, walk_head, walk_body, walk_item, walk}
+use Rattle.prefixes.specs.Walks.{Told, done, cut, wrong, Holds, on_told, carry, after_of, walk_head, walk_body, walk_item, walk}
 use Rattle.prefixes.proofs.Free.{major_of_number, fits_below}
 use Rattle.prefixes.proofs.Fronts.{head_holds}
 use Rattle.reach.specs.declared.Measurement.{Measurement}
 use Rattle.reach.specs.Measured.{DoneSo, NeverDone, Bounds, Deep, body, BodyMeasured, Measured, AsWalked}
-use Rattle.reach.proofs.Parts.{carry_so, carry_never, stop_never, retold_so, retold_never, carry_retold, joined_within}
+use Rattle.reach.proofs.Parts.{carry_so, carry_never, stop_never, carry_retold, joined_within}
 
 -- HEADS
 
@@ -138,31 +137,16 @@ module _ (d : ℕ) (bs : List ℕ) (at : ℕ) (h : ItemHead) (all : all_bytes bs
   pub no_body : BodyMeasured d bs h.major h.argument h.next None → Measured d bs at None
   no_body s r = rw (walk_is d r (drop at bs)) (follow_never d r bs at h (walk_head d r (drop at bs)) (head_so d r bs at h all there) (s r))
 
-  pub with_body : (own n : ℕ) (b : Measurement) → own ≡ reach_of_head (take (h.next - at) (drop at bs)) → own ≤ h.next - at → n ≡ joined own (h.next - at) b.reach → BodyMeasured d bs h.major h.argument h.next (Some b)
+  pub with_body : (own n : ℕ) (b : Measurement) → (own ≡ reach_of_head (take (h.next - at) (drop at bs))) × (own ≤ length (take (h.next - at) (drop at bs))) → n ≡ joined own (h.next - at) b.reach → BodyMeasured d bs h.major h.argument h.next (Some b)
       → Bounds bs at b.end n × ((r : ℕ) → DoneSo bs at b.end (n, b.after) (walk d r (drop at bs)))
-  with_body own n b e l f ((x, y), s) =
+  with_body own n b (e, l) f ((x, y), s) =
       let z = part_length bs at h.next there.0.0 there.0.1 in
       let g : joined (reach_of_head (take (h.next - at) (drop at bs))) (length (take (h.next - at) (drop at bs))) b.reach ≡ n = rw (z, ← e) (sym f) in (
-        (rw f (joined_within at h.next b.end own b.reach (let k = there.1 in omega arith) x), y),
+        (rw f (joined_within at h.next b.end own b.reach (omega (arith, there.1)) x), y),
         λ r. rw (walk_is d r (drop at bs))
             (subst (λ k. DoneSo bs at b.end (k, b.after) (on_told (walk_head d r (drop at bs)) (follow d r))) g
             (follow_so d r bs at h (walk_head d r (drop at bs)) b.end b.reach b.after there.0.0 (omega arith) (head_so d r bs at h all there) (s r))),
       )
-
--- TAGS
-
-module _ (d : ℕ) (bs : List ℕ) (n at : ℕ) where
-  pub tag_body : (c : Measurement) (a : ℕ) → a ≡ cond (eqb n 18446744073709551615) (capped c.after) 18446744073709551615 → Measured (d - 1) bs at (Some c)
-      → Bounds bs at c.end c.reach × ((r : ℕ) → Deep d Tag → DoneSo bs at c.end (c.reach, a) (body d r Tag n (drop at bs)))
-  tag_body c a e (b, s) = (b, λ r h. rw e (retold_so (λ i. (i.0, after_of Tag n i.1)) bs at c.end (c.reach, c.after) (walk_body (walk (d - 1)) r Tag n (drop at bs)) (content r)))
-    where
-      content : (r : ℕ) → DoneSo bs at c.end (c.reach, c.after) (walk_body (walk (d - 1)) r Tag n (drop at bs))
-      content r = cond_both (eqb n 18446744073709551615) (walk (d - 1) (r - 248) (drop at bs)) (walk (d - 1) 0 (drop at bs)) (λ t. DoneSo bs at c.end (c.reach, c.after) t) (λ _. s (r - 248)) (λ _. s 0)
-
-  pub no_content : Measured (d - 1) bs at None → BodyMeasured d bs Tag n at None
-  no_content s r h =
-      retold_never (λ i. (i.0, after_of Tag n i.1)) (walk_body (walk (d - 1)) r Tag n (drop at bs))
-      (cond_both (eqb n 18446744073709551615) (walk (d - 1) (r - 248) (drop at bs)) (walk (d - 1) 0 (drop at bs)) (λ t. NeverDone t) (λ _. s (r - 248)) (λ _. s 0))
 
 -- FOR CALLERS
 

@@ -1,10 +1,11 @@
 -- Parts one after another, at places: what each says gives what the whole says.
-use Rattle.std.proofs.Common.{◌≡◌, ℕ, zero, suc, ◌+◌, ◌-◌, ◌<◌, ◌≤◌, Bool, cond, ltb, List, [], ◌∷◌, ◌++◌, length, get_or, take, drop, sym, refl, ap, ◌∙◌, subst, arith}
-use Rattle.std.proofs.lemmas.List.{drop-drop, length-drop}
-use Rattle.std.proofs.lemmas.Bool.{lt-ltb, le-ltb, le-leb, lt-leb, cond_both}
-use Rattle.cbor.proofs.Places.{part_more, part_length, at_first}
+use Rattle.std.proofs.Common.{◌≡◌, ℕ, zero, suc, ◌+◌, ◌-◌, ◌<◌, ◌≤◌, Bool, true, false, cond, ltb, List, [], ◌∷◌, ◌++◌, length, get_or, take, drop, Some, None, Option, sym, refl, ap, ◌∙◌, inl, inr, arith}
+use Rattle.std.proofs.lemmas.Bool.{lt-ltb, cond_both, cases_lt}
+use Rattle.std.specs.Option.{MatchOption}
+use Rattle.std.specs.Int.{from_bool}
+use Rattle.cbor.proofs.Places.{part_more, at_first}
 use Rattle.prefixes.specs.Words.{joined, last_up, reach_of_head}
-use Rattle.prefixes.specs.Walks.{Told, done, cut, wrong, on_told, carry, retold, settle, walk_one, walk_bytes}
+use Rattle.prefixes.specs.Walks.{Told, done, cut, wrong, on_told, carry, retold, settle, walk_one}
 use Rattle.reach.specs.Measured.{DoneSo, NeverDone, Bounds}
 
 -- ONE AFTER ANOTHER
@@ -127,59 +128,49 @@ one_so bs at test h =
     let z : at + 1 - at ≡ 1 = omega arith in
     rw (at_first bs at h) (cond_both (test (get_or bs at 0)) (done (get_or bs at 0) (get_or bs at 0 ∷ []) (drop (at + 1) bs)) (wrong 0) (λ t. DoneSo bs at (at + 1) (get_or bs at 0) t) (λ e. (refl, rw (z, at_first bs at h), refl)) (λ e. tt))
 
-pub bytes_so : (bs : List ℕ) (at n : ℕ) → at + n ≤ length bs → DoneSo bs at (at + n) (last_up (take n (drop at bs))) (walk_bytes n (drop at bs))
-bytes_so bs at n h =
-    let l : n ≤ length (drop at bs) = rw (length-drop at bs) (omega arith) in
-    let x : at + n - at ≡ n = omega arith in
-    rw (le-leb n (length (drop at bs)) l, x) (refl, refl, drop-drop n at bs)
+-- a test as a number
+pub byte_is : (t : Bool) → from_bool t ≡ cond t 1 0
+byte_is true = refl
+byte_is false = refl
 
-pub bytes_never : (bs : List ℕ) (at n : ℕ) → length bs - at < n → NeverDone (walk_bytes n (drop at bs))
-bytes_never bs at n h =
-    let l : length (drop at bs) < n = rw (length-drop at bs) (omega arith) in
-    rw (lt-leb n (length (drop at bs)) l) tt
+pub byte_within : (t : Bool) → from_bool t ≤ 1
+byte_within true = omega arith
+byte_within false = omega arith
 
 -- the last byte that isn't 255
 
-up_zero : (b : ℕ) (v : List ℕ) → b ≡ 255 → last_up v ≡ 0 → last_up (b ∷ v) ≡ 0
+abbrev pub LastOther : List ℕ → Option ℕ → Type 0
+LastOther u (Some i) = (i < length u) × (get_or u i 0 ≡ 255 → ⊥) × ((k : ℕ) → i < k → k < length u → get_or u k 0 ≡ 255)
+LastOther u None = (k : ℕ) → k < length u → get_or u k 0 ≡ 255
+
+none_up : (u : List ℕ) → ((k : ℕ) → k < length u → get_or u k 0 ≡ 255) → last_up u ≡ 0
 unfolding last_up
-up_zero b v e h = rw (e, h)
+none_up [] h = refl
+none_up (b ∷ u) h = let z : b ≡ 255 = h 0 (omega arith) in rw (z, none_up u (λ k l. h (suc k) (omega arith)))
 
-up_here : (u : List ℕ) (b : ℕ) (v : List ℕ) → b < 255 → last_up v ≡ 0 → last_up (u ++ (b ∷ v)) ≡ suc (length u)
+up_is : (u : List ℕ) (i : ℕ) → ((k : ℕ) → get_or u k 0 < 256) → LastOther u (Some i) → last_up u ≡ i + 1
 unfolding last_up
-up_here [] b v l h = rw (lt-ltb b 255 l, h)
-up_here (x ∷ u) b v l h = rw (up_here u b v l h) (let z : suc (1 + length u) ≡ suc (suc (length u)) = omega arith in z)
+up_is [] i a (l, n, h) = absurd (omega arith)
+up_is (b ∷ u) zero a (l, n, h) =
+    let z : b < 255 = elim (cases_lt b 255) [ inl l ↦ l | inr l ↦ absurd (n (omega (arith, a 0))) ] in
+    rw (lt-ltb b 255 z, none_up u (λ k l. h (suc k) (omega arith) (omega arith)))
+up_is (b ∷ u) (suc i) a (l, n, h) =
+    let e : last_up u ≡ suc i = up_is u i (λ k. a (suc k)) (omega arith, n, λ k l m. h (suc k) (omega arith) (omega arith)) ∙ omega arith in
+    rw e (omega arith)
 
-one_first : (bs : List ℕ) (p end : ℕ) → p < end → end ≤ length bs → take (end - p) (drop p bs) ≡ get_or bs p 0 ∷ take (end - (p + 1)) (drop (p + 1) bs)
-one_first bs p end h l = let z : end - p ≡ suc (end - (p + 1)) = omega arith in rw (z, at_first bs p (omega arith))
+pub last_up_is : (u : List ℕ) (r : Option ℕ) (n : ℕ) → ((k : ℕ) → get_or u k 0 < 256) → LastOther u r → MatchOption r (n ≡ 0) (λ i. n ≡ i + 1) → (n ≡ last_up u) × (n ≤ length u)
+last_up_is u (Some i) n a h e = (e ∙ sym (up_is u i a h), omega arith)
+last_up_is u None n a h e = (e ∙ sym (none_up u h), omega arith)
 
-pub up_start : (bs : List ℕ) (end : ℕ) → last_up (take (end - end) (drop end bs)) ≡ 0
-unfolding last_up
-up_start bs end = let z : end - end ≡ 0 = omega arith in rw z
+pub no_head_up : (u : List ℕ) → length u ≡ 0 → reach_of_head u ≡ 0
+unfolding reach_of_head
+no_head_up [] e = refl
+no_head_up (b ∷ u) e = absurd (omega arith)
 
-pub up_again : (bs : List ℕ) (p end : ℕ) → 0 < p → p ≤ end → end ≤ length bs → get_or bs (p - 1) 0 ≡ 255 → last_up (take (end - p) (drop p bs)) ≡ 0 → last_up (take (end - (p - 1)) (drop (p - 1) bs)) ≡ 0
-up_again bs p end h k l e z = let y : p - 1 + 1 ≡ p = omega arith in rw (one_first bs (p - 1) end (omega arith) l, y) (up_zero (get_or bs (p - 1) 0) (take (end - p) (drop p bs)) e z)
-
-pub up_found : (bs : List ℕ) (at p end : ℕ) → at < p → p ≤ end → end ≤ length bs → get_or bs (p - 1) 0 < 255 → last_up (take (end - p) (drop p bs)) ≡ 0 → p - at ≡ last_up (take (end - at) (drop at bs))
-up_found bs at p end h k l b z =
-    let y : p - 1 + 1 ≡ p = omega arith in
-    let s : take (end - at) (drop at bs) ≡ take (p - 1 - at) (drop at bs) ++ (get_or bs (p - 1) 0 ∷ take (end - p) (drop p bs)) = part_more bs at (p - 1) end (omega arith) (omega arith) ∙ rw (one_first bs (p - 1) end (omega arith) l, y) in
-    let t : suc (length (take (p - 1 - at) (drop at bs))) ≡ p - at = rw (part_length bs at (p - 1) (omega arith) (omega arith)) (omega arith) in
-    rw s (sym t ∙ sym (up_here (take (p - 1 - at) (drop at bs)) (get_or bs (p - 1) 0) (take (end - p) (drop p bs)) b z))
-
-pub up_none : (bs : List ℕ) (at p end : ℕ) → p ≡ at → last_up (take (end - p) (drop p bs)) ≡ 0 → 0 ≡ last_up (take (end - at) (drop at bs))
-up_none bs at p end e z = sym (subst (λ p. last_up (take (end - p) (drop p bs)) ≡ 0) e z)
-
--- heads
-module _ (bs : List ℕ) (at end n : ℕ) (h : at < end) (l : end ≤ length bs) (e : n ≡ last_up (take (end - (at + 1)) (drop (at + 1) bs))) where
-  head_split : reach_of_head (take (end - at) (drop at bs)) ≡ joined (cond (ltb (get_or bs at 0) 248) 1 0) 1 n
-  unfolding reach_of_head
-  head_split = rw (one_first bs at end h l, e)
-
-  pub head_more : 0 < n → n + 1 ≡ reach_of_head (take (end - at) (drop at bs))
-  head_more p = let z : n ≡ suc (n - 1) = omega arith in sym (head_split ∙ rw z (let y : suc (1 + (n - 1)) ≡ suc (n - 1) + 1 = omega arith in y))
-
-  pub head_one : n ≡ 0 → get_or bs at 0 < 248 → 1 ≡ reach_of_head (take (end - at) (drop at bs))
-  head_one p b = sym (head_split ∙ rw (p, lt-ltb (get_or bs at 0) 248 b))
-
-  pub head_zero : n ≡ 0 → 248 ≤ get_or bs at 0 → 0 ≡ reach_of_head (take (end - at) (drop at bs))
-  head_zero p b = sym (head_split ∙ rw (p, le-ltb (get_or bs at 0) 248 b))
+pub head_up : (u : List ℕ) (b : ℕ) (v : List ℕ) (f m n : ℕ) → u ≡ b ∷ v → f ≡ from_bool (ltb b 248) → (m ≡ last_up v) × (m ≤ length v) → n ≡ joined f 1 m → (n ≡ reach_of_head u) × (n ≤ length u)
+unfolding reach_of_head
+head_up u b v f m n e g (h, l) k = (rw (k, e, ← h) (ap (λ x. joined x 1 m) (g ∙ byte_is (ltb b 248))), rw (k, e) (within m l))
+  where
+    within : (m : ℕ) → m ≤ length v → joined f 1 m ≤ length (b ∷ v)
+    within zero l = omega (arith, byte_within (ltb b 248))
+    within (suc m) l = omega arith

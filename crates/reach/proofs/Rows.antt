@@ -1,5 +1,5 @@
 -- Elements and entries one after another, at places.
-use Rattle.std.proofs.Common.{◌≡◌, ℕ, ◌+◌, ◌-◌, ◌<◌, ◌≤◌, ltb, List, [], ◌∷◌, length, take, drop, refl, subst, arith}
+use Rattle.std.proofs.Common.{◌≡◌, ℕ, suc, ◌+◌, ◌-◌, ◌<◌, ◌≤◌, ltb, List, [], ◌∷◌, length, take, drop, subst, arith}
 use Rattle.std.proofs.lemmas.Bool.{cond_both}
 use Rattle.cbor.proofs.Places.{part_length}
 use Rattle.prefixes.specs.Words.{joined}
@@ -25,14 +25,16 @@ module _ (w : List ℕ → Told (ℕ × ℕ)) (bs : List ℕ) where
   abbrev pub ManyLeft : ℕ → ℕ → ℕ → ℕ → ℕ → Type 0
   ManyLeft at count mid left reach = Rest bs at (walk_many w count (drop at bs)) mid (Unit {0}) (λ x. walk_many w left (drop mid bs)) reach
 
-  pub many_start : (at count : ℕ) → at ≤ length bs → ManyLeft at count at count 0
-  many_start at count l = rest_start bs at (walk_many w count (drop at bs)) (Unit {0}) (λ x. walk_many w count (drop at bs)) tt l refl
+  pub many_start : (at count left : ℕ) → at ≤ length bs → left ≡ count → ManyLeft at count at left 0
+  many_start at count left l e = rest_start bs at (walk_many w count (drop at bs)) (Unit {0}) (λ x. walk_many w left (drop at bs)) tt l (rw e)
 
   module _ (at count mid left reach : ℕ) (some : 0 < left) (rest : ManyLeft at count mid left reach) where
-    pub many_more : (next m a n : ℕ) → Bounds bs mid next m → DoneSo bs mid next (m, a) (w (drop mid bs)) → n ≡ joined reach (mid - at) m → ManyLeft at count next (left - 1) n
-    many_more next m a n (x, l) s e =
-        rest_more bs at (walk_many w count (drop at bs)) mid (Unit {0}) (λ x. walk_many w left (drop mid bs)) reach rest next (Unit {0}) (λ x. walk_many w (left - 1) (drop next bs)) m n (x, l) e
-        (λ end k h t _. many_so mid next end left m a k some (omega arith) h l s (t tt)) (λ t _. many_never mid next left m a some s (t tt))
+    pub many_more : (later next m a n : ℕ) → left ≡ suc later → Bounds bs mid next m → DoneSo bs mid next (m, a) (w (drop mid bs)) → n ≡ joined reach (mid - at) m → ManyLeft at count next later n
+    many_more later next m a n f (x, l) s e =
+        let g : later ≡ left - 1 = omega arith in
+        rw g
+        (rest_more bs at (walk_many w count (drop at bs)) mid (Unit {0}) (λ x. walk_many w left (drop mid bs)) reach rest next (Unit {0}) (λ x. walk_many w (left - 1) (drop next bs)) m n (x, l) e
+        (λ end k h t _. many_so mid next end left m a k some (omega arith) h l s (t tt)) (λ t _. many_never mid next left m a some s (t tt)))
 
     pub many_cut : NeverDone (w (drop mid bs)) → NeverDone (walk_many w count (drop at bs))
     many_cut s = rest.never (λ _. rw (many_step w left (drop mid bs) some) (stop_never (w (drop mid bs)) _ s))
@@ -61,9 +63,6 @@ module _ (w : ℕ → List ℕ → Told (ℕ × ℕ)) (bs : List ℕ) where
 
   abbrev pub PairsLeft : ℕ → ℕ → ℕ → ℕ → ℕ → Type 0
   PairsLeft at count mid left reach = Rest bs at (walk_pairs w count [] (drop at bs)) mid (List (List ℕ × ℕ)) (λ last. walk_pairs w left last (drop mid bs)) reach
-
-  pub pairs_start : (at count : ℕ) → at ≤ length bs → PairsLeft at count at count 0
-  pairs_start at count l = rest_start bs at (walk_pairs w count [] (drop at bs)) (List (List ℕ × ℕ)) (λ last. walk_pairs w count last (drop at bs)) [] l refl
 
   module _ (at count mid left reach : ℕ) (some : 0 < left) (rest : PairsLeft at count mid left reach) where
     pub key_cut : NeverDone (w (left - 1) (drop mid bs)) → NeverDone (walk_pairs w count [] (drop at bs))

@@ -1,75 +1,64 @@
 -- Characters and texts, at places.
-use Rattle.std.proofs.Common.{◌≡◌, ℕ, zero, suc, ◌+◌, ◌-◌, ◌<◌, ◌≤◌, Bool, true, false, cond, ◌&&◌, ltb, List, [], ◌∷◌, ◌++◌, length, get_or, drop, Some, sym, refl, ap, subst, inl, inr, arith}
+use Rattle.std.proofs.Common.{◌≡◌, ℕ, zero, suc, ◌+◌, ◌-◌, ◌<◌, ◌≤◌, Bool, true, false, cond, ◌&&◌, ltb, List, [], ◌∷◌, ◌++◌, length, get_or, drop, Some, None, Bor, sym, refl, ap, ◌∙◌, subst, arith}
 use Rattle.std.proofs.lemmas.List.{drop_all, length-drop}
-use Rattle.std.proofs.lemmas.Bool.{lt-ltb, le-ltb, lt-leb, ne_eqb, cases_lt, cond_both}
-use Rattle.cbor.specs.Utf8.{Range, second, leads, tails}
+use Rattle.std.proofs.lemmas.Bool.{lt-leb, cond_both}
+use Rattle.cbor.specs.Utf8.{Range, tail, second, leads, tails}
+use Rattle.items.proofs.Texts.{Follows, tails_follow}
+use Rattle.std.specs.Int.{from_bool}
+use Rattle.std.specs.Slice.{IsItemAt}
+use Rattle.items.proofs.Skips.{lent_is}
 use Rattle.cbor.proofs.Places.{part_length, at_first}
 use Rattle.prefixes.specs.Words.{joined}
 use Rattle.prefixes.specs.Texts.{first_in, top_of_first}
 use Rattle.prefixes.specs.Walks.{Told, done, cut, wrong, on_told, carry, walk_one, walk_ranges, walk_text, between}
 use Rattle.reach.specs.declared.Extent.{Extent}
 use Rattle.reach.specs.Measured.{DoneSo, NeverDone, Bounds, walk_char, CharExtends}
-use Rattle.reach.proofs.Parts.{then_so, then_never, stop_never, carry_never, none_so, one_so, joined_twice, Rest, rest_start, rest_more, rest_end}
+use Rattle.reach.proofs.Parts.{then_so, then_never, stop_never, carry_never, none_so, one_so, joined_twice, joined_within, byte_is, byte_within, Rest, rest_start, rest_more, rest_end}
 
 -- THE BYTES AFTER A CHARACTER'S FIRST
 
--- ranges up to this number, and then up to 191
-unfoldable pub Tops : ℕ → List Range → Type 0
-Tops top [] = Unit {0}
-Tops top (r ∷ rs) = (r.1 ≡ top) × Tops 191 rs
-
-pub tails_tops : (a : ℕ) → Tops (second a).1 (tails a)
-unfolding Tops
-tails_tops a = elim (cases_lt a 128) [
-  | inl h ↦ rw (lt-ltb a 128 h) tt
-  | inr h ↦ elim (cases_lt a 224) [
-    | inl l ↦ rw (le-ltb a 128 h, lt-ltb a 224 l, ne_eqb a 224 (omega arith), ne_eqb a 237 (omega arith), ne_eqb a 240 (omega arith), ne_eqb a 244 (omega arith)) (refl, tt)
-    | inr l ↦ elim (cases_lt a 240) [ inl k ↦ rw (le-ltb a 128 h, le-ltb a 224 l, lt-ltb a 240 k) (refl, (refl, tt)) | inr k ↦ rw (le-ltb a 128 h, le-ltb a 224 l, le-ltb a 240 k) (refl, (refl, (refl, tt))) ]
-  ]
-]
-
 -- what is left of them gives the character
-abbrev pub LeftSo : List ℕ → ℕ → ℕ → ℕ → ℕ → Type 0
-LeftSo bs at end top m = (rs : List Range) → Tops top rs → length rs ≡ end - at → DoneSo bs at end m (walk_ranges rs (drop at bs))
+abbrev pub LeftSo : List ℕ → ℕ → ℕ → Range → ℕ → Type 0
+LeftSo bs at end r m = (rs : List Range) → Follows r rs → length rs ≡ end - at → DoneSo bs at end m (walk_ranges rs (drop at bs))
 
-abbrev pub CharSo : List ℕ → ℕ → ℕ → ℕ → ℕ → ℕ → ℕ → Type 0
-CharSo bs at end left place top reach = (m : ℕ) → LeftSo bs place end top m → DoneSo bs at end (joined reach (place - at) m) (walk_char left (drop at bs))
+abbrev pub CharSo : List ℕ → ℕ → ℕ → ℕ → ℕ → Range → ℕ → Type 0
+CharSo bs at end left place r reach = (at + reach ≤ place) × ((m : ℕ) → LeftSo bs place end r m → DoneSo bs at end (joined reach (place - at) m) (walk_char left (drop at bs)))
 
-left_more : (bs : List ℕ) (at end top m : ℕ) → at < end → end ≤ length bs → LeftSo bs (at + 1) end 191 m → LeftSo bs at end top (joined (cond (ltb (get_or bs at 0) top) 1 0) 1 m)
-unfolding walk_ranges Tops
-left_more bs at end top m h l s [] t e = absurd (omega arith)
-left_more bs at end top m h l s (r ∷ rs) (p, t) e =
-    subst (λ k. DoneSo bs at end (joined (cond (ltb (get_or bs at 0) k) 1 0) 1 m) (walk_ranges (r ∷ rs) (drop at bs))) p
-    (then_so bs at (at + 1) (get_or bs at 0) (walk_one (between r.0 r.1) (drop at bs)) (λ b u rest. walk_ranges rs rest) (λ b u k. joined (cond (ltb b r.1) 1 0) 1 k) end m (omega arith) (omega arith)
-    (one_so bs at (between r.0 r.1) (omega arith)) (s rs t (omega arith)))
-
-pub char_start : (bs : List ℕ) (at end left top reach : ℕ) → at < length bs → end ≡ at + suc (length (tails (get_or bs at 0))) → top ≡ (second (get_or bs at 0)).1 → reach ≡ cond (ltb (get_or bs at 0) (top_of_first left)) 1 0 → CharSo bs at end left (at + 1) top reach
-char_start bs at end left top reach h e f g m s =
-    let z : at + 1 - at ≡ 1 = omega arith in
-    rw (z, g)
-    (then_so bs at (at + 1) (get_or bs at 0) (walk_one (first_in left) (drop at bs)) (λ a u rest. walk_ranges (tails a) rest) (λ a u k. joined (cond (ltb a (top_of_first left)) 1 0) 1 k) end m (omega arith) (omega arith)
-    (one_so bs at (first_in left) h) (s (tails (get_or bs at 0)) (rw f (tails_tops (get_or bs at 0))) (omega arith)))
-
-pub char_more : (bs : List ℕ) (at end left place top reach : ℕ) → at < place → place < end → end ≤ length bs → CharSo bs at end left place top reach → CharSo bs at end left (place + 1) 191 (joined reach (place - at) (cond (ltb (get_or bs place 0) top) 1 0))
-char_more bs at end left place top reach h k l c m s =
-    let z : place + 1 - at ≡ place - at + 1 = omega arith in
-    rw (z, joined_twice reach (place - at) (cond (ltb (get_or bs place 0) top) 1 0) 1 m)
-    (c (joined (cond (ltb (get_or bs place 0) top) 1 0) 1 m) (left_more bs place end top m k l s))
-
--- whether a byte can be larger
-pub can_rise : (b top reach size : ℕ) → b < top → size + 1 ≡ joined reach size (cond (ltb b top) 1 0)
-can_rise b top reach size h = rw (lt-ltb b top h) (omega arith)
-
-pub cannot_rise : (b top reach size : ℕ) → top ≤ b → reach ≡ joined reach size (cond (ltb b top) 1 0)
-cannot_rise b top reach size h = rw (le-ltb b top h)
-
-pub char_end : (bs : List ℕ) (at end left place top reach : ℕ) → place ≡ end → CharSo bs at end left place top reach → DoneSo bs at end reach (walk_char left (drop at bs))
+left_more : (bs : List ℕ) (at end : ℕ) (r : Range) (m : ℕ) → at < end → end ≤ length bs → LeftSo bs (at + 1) end tail m → LeftSo bs at end r (joined (cond (ltb (get_or bs at 0) r.1) 1 0) 1 m)
 unfolding walk_ranges
-char_end bs at end left place top reach e c = c 0 left_none
+left_more bs at end r m h l s [] t e = absurd (omega arith)
+left_more bs at end r m h l s (q ∷ rs) (p, t) e =
+    subst (λ k. DoneSo bs at end (joined (cond (ltb (get_or bs at 0) k.1) 1 0) 1 m) (walk_ranges (q ∷ rs) (drop at bs))) p
+    (then_so bs at (at + 1) (get_or bs at 0) (walk_one (between q.0 q.1) (drop at bs)) (λ b u rest. walk_ranges rs rest) (λ b u k. joined (cond (ltb b q.1) 1 0) 1 k) end m (omega arith) (omega arith)
+    (one_so bs at (between q.0 q.1) (omega arith)) (s rs t (omega arith)))
+
+pub char_start : (bs : List ℕ) (at end left reach : ℕ) (r : Range) → at < length bs → end ≡ at + suc (length (tails (get_or bs at 0))) → r ≡ second (get_or bs at 0) → reach ≡ from_bool (ltb (get_or bs at 0) (top_of_first left)) → CharSo bs at end left (at + 1) r reach
+char_start bs at end left reach r h e f g =
+    let z : at + 1 - at ≡ 1 = omega arith in (
+      omega (arith, byte_within (ltb (get_or bs at 0) (top_of_first left))),
+      λ m s.
+          rw (z, g, byte_is)
+          (then_so bs at (at + 1) (get_or bs at 0) (walk_one (first_in left) (drop at bs)) (λ a u rest. walk_ranges (tails a) rest) (λ a u k. joined (cond (ltb a (top_of_first left)) 1 0) 1 k) end m (omega arith) (omega arith)
+          (one_so bs at (first_in left) h) (s (tails (get_or bs at 0)) (rw f (tails_follow (get_or bs at 0))) (omega arith))),
+    )
+
+pub char_more : (bs : List ℕ) (at end left place reach k n : ℕ) (r : Range) → at < place → place < end → end ≤ length bs → CharSo bs at end left place r reach → k ≡ from_bool (ltb (get_or bs place 0) r.1) → n ≡ joined reach (place - at) k → CharSo bs at end left (place + 1) tail n
+char_more bs at end left place reach k n r h i l (within, so) e f =
+    let z : place + 1 - at ≡ place - at + 1 = omega arith in
+    let b = byte_within (ltb (get_or bs place 0) r.1) in (
+      rw f (joined_within at place (place + 1) reach k within (omega arith)),
+      λ m s.
+          rw (z, f, joined_twice reach (place - at) k 1 m, e, byte_is)
+          (so (joined (cond (ltb (get_or bs place 0) r.1) 1 0) 1 m) (left_more bs place end r m i l s)),
+    )
+
+pub char_end : (bs : List ℕ) (at end left place reach : ℕ) (r : Range) → place ≡ end → CharSo bs at end left place r reach → (at + reach ≤ end) × DoneSo bs at end reach (walk_char left (drop at bs))
+unfolding walk_ranges
+char_end bs at end left place reach r e (within, so) = (omega arith, so 0 left_none)
   where
-    left_none : LeftSo bs place end top 0
+    left_none : LeftSo bs place end r 0
     left_none [] t f = none_so bs place end 0 (sym e)
-    left_none (r ∷ rs) t f = absurd (omega arith)
+    left_none (q ∷ rs) t f = absurd (omega arith)
 
 -- too few bytes
 ranges_short : (rs : List Range) (q : List ℕ) → length q < length rs → NeverDone (walk_ranges rs q)
@@ -80,24 +69,30 @@ ranges_short (r ∷ rs) (b ∷ q) h =
     cond_both (between r.0 r.1 b) (done b (b ∷ []) q) (wrong 0) (λ t. NeverDone (on_told t (λ b u rest. carry (λ m. joined (cond (ltb b r.1) 1 0) 1 m) u (walk_ranges rs rest))))
     (λ e. carry_never (λ m. joined (cond (ltb b r.1) 1 0) 1 m) (b ∷ []) (walk_ranges rs q) (ranges_short rs q (omega arith))) (λ e. tt)
 
-pub char_past : (bs : List ℕ) (at left : ℕ) → length bs ≤ at → NeverDone (walk_char left (drop at bs))
+pub char_past : (bs : List ℕ) (at left : ℕ) → IsItemAt bs at None → NeverDone (walk_char left (drop at bs))
 unfolding walk_one
-char_past bs at left h = rw (drop_all at bs h) tt
-
-pub char_short : (bs : List ℕ) (at left : ℕ) → at < length bs → length bs - at < suc (length (tails (get_or bs at 0))) → NeverDone (walk_char left (drop at bs))
-char_short bs at left h l =
-    then_never bs at (at + 1) (get_or bs at 0) (walk_one (first_in left) (drop at bs)) (λ a u rest. walk_ranges (tails a) rest) (λ a u k. joined (cond (ltb a (top_of_first left)) 1 0) 1 k)
-    (one_so bs at (first_in left) h) (ranges_short (tails (get_or bs at 0)) (drop (at + 1) bs) (rw (length-drop (at + 1) bs) (omega arith)))
+char_past bs at left (a, b, c, l, d) = rw (drop_all at bs l) tt
 
 and_no : (b : Bool) → (b && false) ≡ false
 and_no true = refl
 and_no false = refl
 
-pub char_over : (bs : List ℕ) (at left : ℕ) → at < length bs → left < suc (length (tails (get_or bs at 0))) → NeverDone (walk_char left (drop at bs))
-unfolding walk_one
-char_over bs at left h l =
-    let e : first_in left (get_or bs at 0) ≡ false = rw (lt-leb (suc (length (tails (get_or bs at 0)))) left l) (and_no (leads (get_or bs at 0))) in
-    rw (at_first bs at h, e) tt
+module _ (bs : List ℕ) (at left size : ℕ) (first : Bor ℕ) (there : IsItemAt bs at (Some first)) (is : size ≡ suc (length (tails first.now))) where
+  size_is : size ≡ suc (length (tails (get_or bs at 0)))
+  size_is = is ∙ ap (λ b. suc (length (tails b))) (lent_is bs at first there)
+
+  pub char_short : length bs < at + size → NeverDone (walk_char left (drop at bs))
+  char_short l =
+      let h = size_is in
+      then_never bs at (at + 1) (get_or bs at 0) (walk_one (first_in left) (drop at bs)) (λ a u rest. walk_ranges (tails a) rest) (λ a u k. joined (cond (ltb a (top_of_first left)) 1 0) 1 k)
+      (one_so bs at (first_in left) there.3.0) (ranges_short (tails (get_or bs at 0)) (drop (at + 1) bs) (rw (length-drop (at + 1) bs) (omega arith)))
+
+  pub char_over : left < size → NeverDone (walk_char left (drop at bs))
+  unfolding walk_one
+  char_over l =
+      let h = size_is in
+      let e : first_in left (get_or bs at 0) ≡ false = rw (lt-leb (suc (length (tails (get_or bs at 0)))) left (omega arith)) (and_no (leads (get_or bs at 0))) in
+      rw (at_first bs at there.3.0, e) tt
 
 -- A TEXT
 

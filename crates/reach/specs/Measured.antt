@@ -55,9 +55,8 @@ BodyMeasured d bs m n at (Some b) = Bounds bs at b.end b.reach × ((r : ℕ) →
 BodyMeasured d bs m n at None = (r : ℕ) → Deep d m → NeverDone (body d r m n (drop at bs))
 
 -- an item of a kind of which more come after it than are counted
-abbrev pub uncounted : Option Extent → Option Measurement
-uncounted (Some e) = Some (record { end = e.end; reach = e.reach; after = 18446744073709551615 })
-uncounted None = None
+abbrev pub uncounted : Extent → Measurement
+uncounted e = record { end = e.end; reach = e.reach; after = 18446744073709551615 }
 
 -- whatever the demand: where the walk through an item is done, it is so up to this end, and with this reach and as many after it
 abbrev pub Measured : ℕ → List ℕ → ℕ → Option Measurement → Type 0

@@ -2,9 +2,9 @@
 
 #![tactic(auto)]
 
-ghost use Rattle.std.specs.Prelude.{◌≡◌, suc, ◌+◌, ◌-◌, ◌<◌, ◌≤◌, [], length, drop, if◌then◌else◌, nat_eq, slice_index, slice_range};
+ghost use Rattle.std.specs.Prelude.{◌≡◌, suc, ◌+◌, ◌-◌, ◌<◌, ◌≤◌, [], length, drop, if◌then◌else◌, nat_eq, slice_index};
 ghost use Rattle.cbor.specs.declared.Major.TheVariants.{Tag};
-ghost use Rattle.cbor.specs.Utf8.{tails, second};
+ghost use Rattle.cbor.specs.Utf8.{tails};
 ghost use Rattle.prefixes.specs.Words.{joined, last_up, reach_of_head};
 ghost use Rattle.prefixes.specs.Shapes.{place_of};
 ghost use Rattle.prefixes.specs.Texts.{top_of_first};
@@ -12,7 +12,9 @@ ghost use Rattle.prefixes.specs.Walks.{walk_bytes, walk_text, walk_many, walk_pa
 ghost use Rattle.reach.specs.Measured.{DoneSo, Extends, CharExtends, walk_char, ExtendsIn, BodyMeasured, uncounted, Measured};
 
 use cbor::Major;
+use cbor::reading::bytes_end;
 use items::skipping::{ItemHead, head_at};
+use items::text::{TAIL, char_size, second_of};
 
 // Where an item ends, how far it reaches and how many valid items come after it in the order of bytes, counted up to u64::MAX.
 // It reaches up to and with its last byte that can be larger, counted from 1, or 0 if none can.
@@ -39,43 +41,33 @@ fn join(first: usize, size: usize, second: usize) -> usize
 }
 
 // The last of some bytes that isn't ff, counted from 1.
-fn last_up(bytes: &[u8], at: usize, end: usize) -> usize
-    requires { (at ≤ end) × (end ≤ length bytes.now) }
-    ensures { (result ≡ last_up (slice_range bytes.now at end)) × (result ≤ end - at) }
+fn last_up(bytes: &[u8]) -> usize
+    ensures { (result ≡ last_up bytes.now) × (result ≤ length bytes.now) }
 {
-    let mut place = end;
-    'bytes: while place > at {
-        if bytes[place - 1] != 0xff {
-            return place - at;
-        }
-        place -= 1;
-    }
-    0
+    bytes
+        .iter()
+        .rposition(|byte| *byte != 0xff)
+        .map_or(0, |index| index + 1)
 }
 
 // No head begins with a larger byte than f8.
-fn head_reach(bytes: &[u8], at: usize, end: usize) -> usize
-    requires { (at < end) × (end ≤ length bytes.now) }
-    ensures { (result ≡ reach_of_head (slice_range bytes.now at end)) × (result ≤ end - at) }
+fn head_reach(head: &[u8]) -> usize
+    ensures { (result ≡ reach_of_head head.now) × (result ≤ length head.now) }
 {
-    let up = last_up(bytes, at + 1, end);
-    if up > 0 {
-        return up + 1;
-    }
-    if bytes[at] < 0xf8 { 1 } else { 0 }
+    let Some((first, rest)) = head.split_first() else {
+        return 0;
+    };
+    join(usize::from(*first < 0xf8), 1, last_up(rest))
 }
 
 fn measure_bytes(bytes: &[u8], at: usize, size: u64) -> Option<Extent>
     requires { at ≤ length bytes.now }
     ensures { Extends bytes.now at result (walk_bytes size (drop at bytes.now)) }
 {
-    if size > (bytes.len() - at) as u64 {
-        return None;
-    }
-    let end = at + size as usize;
+    let end = bytes_end(bytes, at, size)?;
     Some(Extent {
         end,
-        reach: last_up(bytes, at, end),
+        reach: last_up(&bytes[at..end]),
     })
 }
 
@@ -91,28 +83,6 @@ fn first_top(left: u64) -> u8
     }
 }
 
-// The largest second byte of a character, by its first one.
-fn second_top(first: u8) -> u8
-    ensures { result ≡ (second first).1 }
-{
-    match first {
-        0xed => 0x9f,
-        0xf4 => 0x8f,
-        _ => 0xbf,
-    }
-}
-
-fn char_size(first: u8) -> usize
-    ensures { result ≡ suc (length (tails first)) }
-{
-    match first {
-        0..=0x7f => 1,
-        0x80..=0xdf => 2,
-        0xe0..=0xef => 3,
-        _ => 4,
-    }
-}
-
 // How far a character reaches, in a text with so many bytes left.
 fn char_reach(bytes: &[u8], at: usize, end: usize, left: u64) -> usize
     requires at_in_bounds { (at < length bytes.now) × (end ≤ length bytes.now) }
@@ -120,29 +90,24 @@ fn char_reach(bytes: &[u8], at: usize, end: usize, left: u64) -> usize
     ensures { (at + result ≤ end) × DoneSo bytes.now at end result (walk_char left (drop at bytes.now)) }
 {
     let first = bytes[at];
-    let mut reach = if first < first_top(left) { 1 } else { 0 };
-    let mut top = second_top(first);
+    let mut reach = usize::from(first < first_top(left));
+    let mut range = second_of(first);
+    // the places count, so the loop goes over them and not over the bytes
     for place in at + 1..end {
-        if bytes[place] < top {
-            reach = place + 1 - at;
-        }
-        top = 0xbf;
+        reach = join(reach, place - at, usize::from(bytes[place] < range.high));
+        range = TAIL;
     }
     reach
 }
 
 fn measure_char(bytes: &[u8], at: usize, left: u64) -> Option<Extent>
-    requires { at ≤ length bytes.now }
     ensures { CharExtends bytes.now at left result }
 {
-    if at >= bytes.len() {
+    let size = char_size(*bytes.get(at)?) as u64;
+    if size > left {
         return None;
     }
-    let size = char_size(bytes[at]);
-    if size > bytes.len() - at || size as u64 > left {
-        return None;
-    }
-    let end = at + size;
+    let end = bytes_end(bytes, at, size)?;
     Some(Extent {
         end,
         reach: char_reach(bytes, at, end, left),
@@ -156,7 +121,7 @@ fn measure_text(bytes: &[u8], at: usize, size: u64) -> Option<Extent>
     let mut end = at;
     let mut reach = 0;
     let mut left = size;
-    'chars: while left > 0 {
+    while left > 0 {
         let char = measure_char(bytes, end, left)?;
         reach = join(reach, end - at, char.reach);
         left -= (char.end - end) as u64;
@@ -166,15 +131,14 @@ fn measure_text(bytes: &[u8], at: usize, size: u64) -> Option<Extent>
 }
 
 // More come after such an item than are counted.
-fn endless(extent: Option<Extent>) -> Option<Measurement>
+fn endless(extent: Extent) -> Measurement
     ensures { result ≡ uncounted extent }
 {
-    let extent = extent?;
-    Some(Measurement {
+    Measurement {
         end: extent.end,
         reach: extent.reach,
         after: u64::MAX,
-    })
+    }
 }
 
 // How many simple values come after one, by its place among the 248 that there are; nothing else comes after them.
@@ -208,17 +172,13 @@ fn measure_elements(bytes: &[u8], at: usize, count: u64, depth: u8) -> Option<Ex
     requires { at ≤ length bytes.now }
     ensures { ExtendsIn depth bytes.now at result (walk_many (walk (depth - 1) 0) count (drop at bytes.now)) }
 {
-    if depth == 0 {
-        return None;
-    }
+    let inner = depth.checked_sub(1)?;
     let mut end = at;
     let mut reach = 0;
-    let mut left = count;
-    'elements: while left > 0 {
-        let element = measure(bytes, end, depth - 1)?;
+    for _ in 0..count {
+        let element = measure(bytes, end, inner)?;
         reach = join(reach, end - at, element.reach);
         end = element.end;
-        left -= 1;
     }
     Some(Extent { end, reach })
 }
@@ -228,16 +188,12 @@ fn measure_entries(bytes: &[u8], at: usize, count: u64, depth: u8) -> Option<Ext
     requires { at ≤ length bytes.now }
     ensures { ExtendsIn depth bytes.now at result (walk_pairs (walk (depth - 1)) count [] (drop at bytes.now)) }
 {
-    if depth == 0 {
-        return None;
-    }
+    let inner = depth.checked_sub(1)?;
     let mut end = at;
     let mut reach = 0;
-    let mut left = count;
-    'entries: while left > 0 {
-        left -= 1;
-        let key = measure(bytes, end, depth - 1)?;
-        let value = measure(bytes, key.end, depth - 1)?;
+    for left in (0..count).rev() {
+        let key = measure(bytes, end, inner)?;
+        let value = measure(bytes, key.end, inner)?;
         let entry = join(key_reach(key, left), key.end - end, value.reach);
         reach = join(reach, end - at, entry);
         end = value.end;
@@ -249,10 +205,7 @@ fn measure_entries(bytes: &[u8], at: usize, count: u64, depth: u8) -> Option<Ext
 fn measure_tag(bytes: &[u8], at: usize, number: u64, depth: u8) -> Option<Measurement>
     ensures { BodyMeasured depth bytes.now Tag number at result }
 {
-    if depth == 0 {
-        return None;
-    }
-    let content = measure(bytes, at, depth - 1)?;
+    let content = measure(bytes, at, depth.checked_sub(1)?)?;
     Some(Measurement {
         end: content.end,
         reach: content.reach,
@@ -268,11 +221,11 @@ fn measure_body(bytes: &[u8], head: ItemHead, depth: u8) -> Option<Measurement>
 {
     let at = head.next;
     match head.major {
-        Major::Unsigned | Major::Negative => endless(Some(Extent { end: at, reach: 0 })),
-        Major::Bytes => endless(measure_bytes(bytes, at, head.argument)),
-        Major::Text => endless(measure_text(bytes, at, head.argument)),
-        Major::Array => endless(measure_elements(bytes, at, head.argument, depth)),
-        Major::Map => endless(measure_entries(bytes, at, head.argument, depth)),
+        Major::Unsigned | Major::Negative => Some(endless(Extent { end: at, reach: 0 })),
+        Major::Bytes => measure_bytes(bytes, at, head.argument).map(endless),
+        Major::Text => measure_text(bytes, at, head.argument).map(endless),
+        Major::Array => measure_elements(bytes, at, head.argument, depth).map(endless),
+        Major::Map => measure_entries(bytes, at, head.argument, depth).map(endless),
         Major::Tag => measure_tag(bytes, at, head.argument, depth),
         Major::Simple => Some(Measurement {
             end: at,
@@ -289,7 +242,7 @@ pub fn measure(bytes: &[u8], at: usize, depth: u8) -> Option<Measurement>
 {
     let head = head_at(bytes, at)?;
     let body = measure_body(bytes, head, depth)?;
-    let own = head_reach(bytes, at, head.next);
+    let own = head_reach(&bytes[at..head.next]);
     Some(Measurement {
         end: body.end,
         reach: join(own, head.next - at, body.reach),

@@ -1,8 +1,8 @@
-use Rattle.std.proofs.Common.{◌-◌, arith}
+use Rattle.std.proofs.Common.{◌≡◌, ◌-◌, arith}
 use Rattle.cbor.proofs.Numbers.{bytes_typed}
 use Rattle.prefixes.specs.Walks.{walk}
-use Rattle.reach.proofs.Rows.{many_start, many_more, many_cut, many_end, pairs_start, key_cut, value_cut, pairs_more, pairs_end}
-use Rattle.reach.proofs.Measures.{no_head, no_body, with_body, tag_body, no_content}
+use Rattle.reach.proofs.Rows.{many_start, many_more, many_cut, many_end, key_cut, value_cut, pairs_more, pairs_end}
+use Rattle.reach.proofs.Measures.{no_head, no_body, with_body}
 use Rattle.reach.proofs.+measuring.Goals as goal
 
 -- by the head
@@ -19,68 +19,61 @@ measure-returns-in_err-body t c =
 pub measure-returns : goal.measure-returns
 measure-returns t c =
     with_body c.args.depth c.args.bytes.now c.args.at c.in_ok-head.head (bytes_typed c.args.bytes.now (λ i. omega (arith, c.type_inv.bytes i))) c.in_ok-head.ensures
-    c.head_reach-own.result c.join.result c.in_ok-body.body c.head_reach-own.ensures.0 c.head_reach-own.ensures.1 c.join.ensures c.in_ok-body.ensures
+    c.head_reach-own.result c.join.result c.in_ok-body.body c.head_reach-own.ensures c.join.ensures c.in_ok-body.ensures
 
 -- elements
 
-pub measure_elements-elements-init : goal.measure_elements-elements-init
-measure_elements-elements-init t c = many_start (walk (c.args.depth - 1) 0) c.args.bytes.now c.args.at c.args.count c.requires
+pub measure_elements-loop-init : goal.measure_elements-loop-init
+measure_elements-loop-init t c = many_start (walk c.in_ok-inner.inner 0) c.args.bytes.now c.args.at c.args.count _ c.requires (omega arith)
 
 pub measure_elements-returns-in_err-element : goal.measure_elements-returns-in_err-element
 measure_elements-returns-in_err-element t c =
-    rw c.from_residual.ensures
-    (λ h. many_cut (walk (c.args.depth - 1) 0) c.args.bytes.now c.args.at c.args.count c.elements.end c.elements.left c.elements.reach (omega arith) c.elements.invariant (c.in_err-element.ensures 0))
+    let i : c.args.depth - 1 ≡ c.in_ok-inner.inner = omega arith in
+    rw (c.from_residual-in_err-element.ensures, i)
+    (λ h. many_cut (walk c.in_ok-inner.inner 0) c.args.bytes.now c.args.at c.args.count c.loop.end _ c.loop.reach (omega arith) c.loop.invariant (c.in_err-element.ensures 0))
 
-pub measure_elements-elements-preserved : goal.measure_elements-elements-preserved
-measure_elements-elements-preserved t c =
+pub measure_elements-loop-preserved : goal.measure_elements-loop-preserved
+measure_elements-loop-preserved t c =
     let e = c.in_ok-element.element in
     let (b, s) = c.in_ok-element.ensures in
-    many_more (walk (c.args.depth - 1) 0) c.args.bytes.now c.args.at c.args.count c.elements.end c.elements.left c.elements.reach (omega arith) c.elements.invariant
-    e.end e.reach e.after c.join-reach.result b (s 0) c.join-reach.ensures
+    many_more (walk c.in_ok-inner.inner 0) c.args.bytes.now c.args.at c.args.count c.loop.end _ c.loop.reach (omega arith) c.loop.invariant
+    _ e.end e.reach e.after c.join-reach.result (omega arith) b (s 0) c.join-reach.ensures
 
 pub measure_elements-returns : goal.measure_elements-returns
 measure_elements-returns t c =
-    let (b, s) = many_end (walk (c.args.depth - 1) 0) c.args.bytes.now c.args.at c.args.count c.elements.end c.elements.left c.elements.reach (omega arith) c.elements.invariant in
-    (b, λ h. s)
+    let (b, s) = many_end (walk c.in_ok-inner.inner 0) c.args.bytes.now c.args.at c.args.count c.loop.end _ c.loop.reach (omega arith) c.loop.invariant in
+    let i : c.args.depth - 1 ≡ c.in_ok-inner.inner = omega arith in
+    (b, λ h. rw i s)
 
 -- entries
 
-pub measure_entries-entries-init : goal.measure_entries-entries-init
-measure_entries-entries-init t c = pairs_start (walk (c.args.depth - 1)) c.args.bytes.now c.args.at c.args.count c.requires
-
 pub measure_entries-returns-in_err-key : goal.measure_entries-returns-in_err-key
 measure_entries-returns-in_err-key t c =
-    rw c.from_residual.ensures
-    (λ h. key_cut (walk (c.args.depth - 1)) c.args.bytes.now c.args.at c.args.count c.entries.end c.entries.left c.entries.reach (omega arith) c.entries.invariant (c.in_err-key.ensures (c.entries.left - 1)))
+    let i : c.args.depth - 1 ≡ c.in_ok-inner.inner = omega arith in
+    rw (c.from_residual-in_err-key.ensures, i)
+    (λ h. key_cut (walk c.in_ok-inner.inner) c.args.bytes.now c.args.at c.args.count c.loop-left.end c.loop-left.left c.loop-left.reach (omega arith) c.loop-left.invariant (c.in_err-key.ensures (c.loop-left.left - 1)))
 
 pub measure_entries-returns-in_err-value : goal.measure_entries-returns-in_err-value
 measure_entries-returns-in_err-value t c =
     let k = c.in_ok-key.key in
     let (b, s) = c.in_ok-key.ensures in
-    rw c.from_residual-in_err-value.ensures
-    (λ h. value_cut (walk (c.args.depth - 1)) c.args.bytes.now c.args.at c.args.count c.entries.end c.entries.left c.entries.reach (omega arith) c.entries.invariant
-    k.end k.reach k.after b (s (c.entries.left - 1)) (c.in_err-value.ensures 0))
+    let i : c.args.depth - 1 ≡ c.in_ok-inner.inner = omega arith in
+    rw (c.from_residual-in_err-value.ensures, i)
+    (λ h. value_cut (walk c.in_ok-inner.inner) c.args.bytes.now c.args.at c.args.count c.loop-left.end c.loop-left.left c.loop-left.reach (omega arith) c.loop-left.invariant
+    k.end k.reach k.after b (s (c.loop-left.left - 1)) (c.in_err-value.ensures 0))
 
-pub measure_entries-entries-preserved : goal.measure_entries-entries-preserved
-measure_entries-entries-preserved t c =
+pub measure_entries-loop-left-preserved : goal.measure_entries-loop-left-preserved
+measure_entries-loop-left-preserved t c =
     let k = c.in_ok-key.key in
     let v = c.in_ok-value.value in
     let (b, s) = c.in_ok-key.ensures in
     let (d, u) = c.in_ok-value.ensures in
-    pairs_more (walk (c.args.depth - 1)) c.args.bytes.now c.args.at c.args.count c.entries.end c.entries.left c.entries.reach (omega arith) c.entries.invariant
-    k.end k.reach k.after b (s (c.entries.left - 1)) v.end v.reach v.after
+    pairs_more (walk c.in_ok-inner.inner) c.args.bytes.now c.args.at c.args.count c.loop-left.end c.loop-left.left c.loop-left.reach (omega arith) c.loop-left.invariant
+    k.end k.reach k.after b (s (c.loop-left.left - 1)) v.end v.reach v.after
     c.key_reach.result c.join-entry.result c.join-reach.result d (u 0) c.key_reach.ensures c.join-entry.ensures c.join-reach.ensures
 
 pub measure_entries-returns : goal.measure_entries-returns
 measure_entries-returns t c =
-    let (b, s) = pairs_end (walk (c.args.depth - 1)) c.args.bytes.now c.args.at c.args.count c.entries.end c.entries.left c.entries.reach (omega arith) c.entries.invariant in
-    (b, λ h. s)
-
--- tags
-
-pub measure_tag-returns-in_err-content : goal.measure_tag-returns-in_err-content
-measure_tag-returns-in_err-content t c = rw c.from_residual.ensures (no_content c.args.depth c.args.bytes.now c.args.number c.args.at c.in_err-content.ensures)
-
-pub measure_tag-returns : goal.measure_tag-returns
-measure_tag-returns t c =
-    tag_body c.args.depth c.args.bytes.now c.args.number c.args.at c.in_ok-content.content c.after_tag.result c.after_tag.ensures c.in_ok-content.ensures
+    let (b, s) = pairs_end (walk c.in_ok-inner.inner) c.args.bytes.now c.args.at c.args.count c.loop-left.end c.loop-left.left c.loop-left.reach (omega arith) c.loop-left.invariant in
+    let i : c.args.depth - 1 ≡ c.in_ok-inner.inner = omega arith in
+    (b, λ h. rw i s)

@@ -18,14 +18,8 @@ decreases-measure_entries l = 3 * l.depth
 abbrev pub decreases-measure_tag : goal.decreases-measure_tag
 decreases-measure_tag l = 3 * l.depth
 
-abbrev pub invariant-measure_elements-elements : goal.invariant-measure_elements-elements
-invariant-measure_elements-elements l = ManyLeft (walk (l.depth - 1) 0) l.bytes l.at l.count l.end l.left l.reach
+abbrev pub invariant-measure_elements-loop : goal.invariant-measure_elements-loop
+invariant-measure_elements-loop l = ManyLeft (walk l.inner 0) l.bytes l.at l.count l.end (l.count - l.counter) l.reach
 
-abbrev pub decreases-measure_elements-elements : goal.decreases-measure_elements-elements
-decreases-measure_elements-elements l = l.left
-
-abbrev pub invariant-measure_entries-entries : goal.invariant-measure_entries-entries
-invariant-measure_entries-entries l = PairsLeft (walk (l.depth - 1)) l.bytes l.at l.count l.end l.left l.reach
-
-abbrev pub decreases-measure_entries-entries : goal.decreases-measure_entries-entries
-decreases-measure_entries-entries l = l.left
+abbrev pub invariant-measure_entries-loop-left : goal.invariant-measure_entries-loop-left
+invariant-measure_entries-loop-left l = PairsLeft (walk l.inner) l.bytes l.at l.count l.end l.left l.reach

@@ -1,13 +1,13 @@
-use Rattle.std.proofs.Common.{arith}
 use Rattle.reach.proofs.Texts.{char_past, char_short, char_over}
-use Rattle.reach.proofs.measure_char.Goals.{then-size-bytes-via-then-size-bytes, then-size-bytes-via-else-size-bytes+then-size-left}
 use Rattle.reach.proofs.measure_char.Goals as goal
 
-pub returns-then-at-bytes : goal.returns-then-at-bytes
-returns-then-at-bytes c = char_past c.args.bytes.now c.args.at c.args.left (omega arith)
+pub returns-in_err-get : goal.returns-in_err-get
+returns-in_err-get c = rw c.from_residual.ensures (char_past c.args.bytes.now c.args.at c.args.left c.in_err-get.ensures.lookup)
 
-pub returns-then-size-bytes : goal.returns-then-size-bytes
-returns-then-size-bytes c = elim c.then-size-bytes.branch [
-  | then-size-bytes-via-then-size-bytes w ↦ char_short c.args.bytes.now c.args.at c.args.left (omega arith) (omega (arith, w.if-size-bytes.true))
-  | then-size-bytes-via-else-size-bytes+then-size-left w ↦ char_over c.args.bytes.now c.args.at c.args.left (omega arith) (omega (arith, w.if-size-left.true))
-]
+pub returns-then-size-left : goal.returns-then-size-left
+returns-then-size-left c = char_over c.args.bytes.now c.args.at c.args.left c.char_size-size.result c.in_ok-get.field-0 c.in_ok-get.ensures.lookup c.char_size-size.ensures c.if-size-left.true
+
+pub returns-in_err-end : goal.returns-in_err-end
+returns-in_err-end c =
+    rw c.from_residual-in_err-end.ensures
+    (char_short c.args.bytes.now c.args.at c.args.left c.char_size-size.result c.in_ok-get.field-0 c.in_ok-get.ensures.lookup c.char_size-size.ensures c.in_err-end.ensures)
