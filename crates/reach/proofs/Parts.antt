@@ -39,16 +39,6 @@ stop_never (done i u rest) f s = absurd s
 stop_never cut f s = tt
 stop_never (wrong q) f s = tt
 
-pub retold_so : {I J : Type 0} (f : I → J) (bs : List ℕ) (at end : ℕ) (i : I) (t : Told I) → DoneSo bs at end i t → DoneSo bs at end (f i) (retold f t)
-retold_so f bs at end i (done j u rest) (a, b, c) = (ap f a, b, c)
-retold_so f bs at end i cut s = tt
-retold_so f bs at end i (wrong q) s = tt
-
-pub retold_never : {I J : Type 0} (f : I → J) (t : Told I) → NeverDone t → NeverDone (retold f t)
-retold_never f (done j u rest) s = s
-retold_never f cut s = tt
-retold_never f (wrong q) s = tt
-
 pub carry_retold : {I J K : Type 0} (f : I → J) (g : J → K) (u : List ℕ) (t : Told I) → carry g u (retold f t) ≡ carry (λ i. g (f i)) u t
 carry_retold f g u (done j v rest) = refl
 carry_retold f g u cut = refl

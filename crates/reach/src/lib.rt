@@ -1,4 +1,5 @@
 // How far items reach that are known to be valid, and how many come after them.
+// Places are plain numbers: one with its bound in its type would be made and taken apart at each call.
 
 #![tactic(auto)]
 
@@ -33,6 +34,7 @@ struct Extent {
 }
 
 // The reach of a part and what follows it: the later place wins.
+// 0 stands for none, as in what is said of it: an Option would be made of each number and turned into it again.
 fn join(first: usize, size: usize, second: usize) -> usize
     requires { size + second < 18446744073709551616 }
     ensures { result ≡ joined first size second }
@@ -121,6 +123,7 @@ fn measure_text(bytes: &[u8], at: usize, size: u64) -> Option<Extent>
     let mut end = at;
     let mut reach = 0;
     let mut left = size;
+    // how many bytes a character takes is known only once it is measured, so no iterator over them steps so
     while left > 0 {
         let char = measure_char(bytes, end, left)?;
         reach = join(reach, end - at, char.reach);
