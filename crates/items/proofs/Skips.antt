@@ -1,10 +1,13 @@
 -- Items passed over: by the head that stands there, and what is in them.
-use Rattle.std.proofs.Common.{◌≡◌, ℕ, suc, ◌+◌, ◌-◌, ◌*◌, ◌/◌, ◌<◌, ◌≤◌, min, true, ◌&&◌, ◌⊎◌, List, [], ◌∷◌, ◌++◌, length, get_or, take, drop, Some, None, Option, Ok, Err, Result, Bor, sym, refl, ap, ◌∙◌, subst, arith, length-append}
+use Rattle.std.proofs.Common.{◌≡◌, ℕ, suc, ◌+◌, ◌-◌, ◌*◌, ◌/◌, ◌<◌, ◌≤◌, min, true, cond, eqb, ◌&&◌, ◌||◌, ◌⊎◌, List, [], ◌∷◌, ◌++◌, length, get_or, take, drop, Some, None, Option, Ok, Err, Result, Bor, inl, inr, sym, refl, ap, ◌∙◌, subst, arith, length-append}
 use Rattle.std.specs.Result.{result_ok}
 use Rattle.std.specs.Slice.{IsItemAt}
+use Rattle.std.specs.Bool.{MatchBool}
 use Rattle.std.proofs.lemmas.List.{append-nil}
 use Rattle.std.proofs.lemmas.Bool.{ltb-true, and_parts, and_from}
 use Rattle.cbor.specs.Item.{Item, unsigned, negative, byte_string, text_string, array, map, tag, simple, Items, no_item, more_items, Entries, no_entry, more_entries, how_many, how_many_entries}
+use Rattle.cbor.specs.declared.Major.{Major}
+use Rattle.cbor.specs.declared.Major.TheVariants.{Unsigned, Negative, Bytes, Text, Simple}
 use Rattle.cbor.specs.Encoding.{major_number, to_bytes, head, encode, encode_items, encode_entries}
 use Rattle.cbor.specs.Valid.{word, valid_at, valid_items, valid_entries, ItemOf}
 use Rattle.cbor.specs.Prefix.{StandsAt}
@@ -133,52 +136,6 @@ skips_none d bs at none = record {
   within = tt;
 }
 
--- a result by the head there: what it says of every item with that head
-pub skips_by : (d : ℕ) (bs : List ℕ) (at : ℕ) (h : ItemHead) (r : Option ℕ) → HeadTold bs at (Some h) → EndsWithin bs h.next r
-    → ((i : Item) (end : ℕ) → valid_at d i ≡ true → major_in i ≡ major_number h.major → argument_in i ≡ h.argument → StandsAt (λ w. w ≡ body_in i) bs h.next end → r ≡ Some end)
-    → Skips d bs at r
-skips_by d bs at h r (st, l) within by = record {
-  ends = λ i end item.
-      let (mid, (a, b)) = opened d i bs at end item in
-      let p = (head_major (major_number h.major) h.argument bs at h.next st).1 in
-      let q = (head_major (major_in i) (argument_in i) bs at mid a).1 in
-      let e : major_in i ≡ major_number h.major = sym q ∙ p in
-      let a' = subst (λ m. StandsAt (HeadOf m (argument_in i)) bs at mid) e a in
-      let (n, m) = head_once (major_number h.major) (argument_in i) h.argument bs at mid h.next a' st in
-      by i end item.2.1 e n (subst (λ x. StandsAt (λ w. w ≡ body_in i) bs x end) m b);
-  within = later r within;
-}
-  where
-    later : (r : Option ℕ) → EndsWithin bs h.next r → EndsWithin bs at r
-    later (Some end) (a, b) = (omega arith, b)
-    later None w = tt
-
--- BY MAJOR TYPE
-
-ends_at : (bs : List ℕ) (at end n : ℕ) (w : List ℕ) → StandsAt (λ v. v ≡ w) bs at end → length w ≡ n → end ≡ at + n
-ends_at bs at end n w (h, k, e) l = (let z = part_length bs at end h k in let y = ap length e in omega arith)
-
--- nothing after the head
-pub plain_body : (i : Item) (m : ℕ) → major_in i ≡ m → (m ≡ 0) ⊎ ((m ≡ 1) ⊎ (m ≡ 7)) → length (body_in i) ≡ 0
-plain_body (unsigned n) m e h = refl
-plain_body (negative n) m e h = refl
-plain_body (byte_string bs) m e h = absurd (omega arith)
-plain_body (text_string bs) m e h = absurd (omega arith)
-plain_body (array is) m e h = absurd (omega arith)
-plain_body (map es) m e h = absurd (omega arith)
-plain_body (tag n i) m e h = absurd (omega arith)
-plain_body (simple n) m e h = refl
-
-pub string_body : (i : Item) (m : ℕ) → major_in i ≡ m → (m ≡ 2) ⊎ (m ≡ 3) → length (body_in i) ≡ argument_in i
-string_body (unsigned n) m e h = absurd (omega arith)
-string_body (negative n) m e h = absurd (omega arith)
-string_body (byte_string bs) m e h = refl
-string_body (text_string bs) m e h = refl
-string_body (array is) m e h = absurd (omega arith)
-string_body (map es) m e h = absurd (omega arith)
-string_body (tag n i) m e h = absurd (omega arith)
-string_body (simple n) m e h = absurd (omega arith)
-
 -- keys and values as items one after the other
 flat : Entries → Items
 flat no_entry = no_item
@@ -201,44 +158,79 @@ flat_valid d (more_entries k v es) h =
     let e = entry_parts d k v es h in
     and_from (valid_at d k) (valid_at d v && valid_items d (flat es)) e.key (and_from (valid_at d v) (valid_items d (flat es)) e.value (flat_valid d es e.rest))
 
--- how many items there are in one, by its head
-abbrev inner_count : ℕ → ℕ → ℕ → Type 0
-inner_count m n k = ((m ≡ 4) × (k ≡ n)) ⊎ (((m ≡ 5) × (k ≡ 2 * n)) ⊎ ((m ≡ 6) × (k ≡ 1)))
+-- what a head says of the bytes after it
+abbrev Inner : ℕ → ℕ → List ℕ → Type 0
+Inner d k w = (is : Items) × (how_many is ≡ k) × InnerOf d is w
 
-pub inner_body : (d : ℕ) (i : Item) (m k : ℕ) → major_in i ≡ m → valid_at d i ≡ true → inner_count m (argument_in i) k → (is : Items) × (how_many is ≡ k) × ((w : List ℕ) → w ≡ body_in i → InnerOf d is w)
+abbrev BodyOf : ℕ → ℕ → ℕ → List ℕ → Type 0
+BodyOf d m n w = MatchBool (eqb m 4) (Inner d n w) (MatchBool (eqb m 5) (Inner d (2 * n) w) (MatchBool (eqb m 6) (Inner d 1 w) (length w ≡ cond (eqb m 2 || eqb m 3) n 0)))
+
+body_of : (d : ℕ) (i : Item) → valid_at d i ≡ true → BodyOf d (major_in i) (argument_in i) (body_in i)
 unfolding valid_at valid_items encode_items how_many
-inner_body d (unsigned n) m k e v h = absurd (omega arith)
-inner_body d (negative n) m k e v h = absurd (omega arith)
-inner_body d (byte_string bs) m k e v h = absurd (omega arith)
-inner_body d (text_string bs) m k e v h = absurd (omega arith)
-inner_body d (array is) m k e v h =
-    let p = nested_parts d (how_many is) (valid_items (d - 1) is) v in
-    (is, omega arith, λ w b. (b, ltb-true 0 d p.0, p.2))
-inner_body d (map es) m k e v h =
-    let p = nested_parts d (how_many_entries es) (valid_entries (d - 1) es) v in
-    (flat es, omega (arith, flat_count es), λ w b. (b ∙ flat_encoded es, ltb-true 0 d p.0, flat_valid (d - 1) es p.2))
-inner_body d (tag n i) m k e v h =
+body_of d (unsigned n) v = refl
+body_of d (negative n) v = refl
+body_of d (byte_string bs) v = refl
+body_of d (text_string bs) v = refl
+body_of d (array is) v = let p = nested_parts d (how_many is) (valid_items (d - 1) is) v in (is, refl, (refl, ltb-true 0 d p.0, p.2))
+body_of d (map es) v = let p = nested_parts d (how_many_entries es) (valid_entries (d - 1) es) v in (flat es, flat_count es, (flat_encoded es, ltb-true 0 d p.0, flat_valid (d - 1) es p.2))
+body_of d (tag n i) v =
     let p = nested_parts d n (valid_at (d - 1) i) v in
-    (more_items i no_item, omega arith, λ w b. (b ∙ sym (append-nil (encode i)), ltb-true 0 d p.0, and_from (valid_at (d - 1) i) true p.2 refl))
-inner_body d (simple n) m k e v h = absurd (omega arith)
+    (more_items i no_item, refl, (sym (append-nil (encode i)), ltb-true 0 d p.0, and_from (valid_at (d - 1) i) true p.2 refl))
+body_of d (simple n) v = refl
 
--- EACH ARM
+-- a result by the head there: what it says of every body that such a head has
+pub skips_by : (d : ℕ) (bs : List ℕ) (at : ℕ) (h : ItemHead) (r : Option ℕ) → HeadTold bs at (Some h) → EndsWithin bs h.next r
+    → ((w : List ℕ) (end : ℕ) → BodyOf d (major_number h.major) h.argument w → StandsAt (λ v. v ≡ w) bs h.next end → r ≡ Some end) → Skips d bs at r
+skips_by d bs at h r (st, l) within by = record {
+  ends = λ i end item.
+      let (mid, (a, b)) = opened d i bs at end item in
+      let p = (head_major (major_number h.major) h.argument bs at h.next st).1 in
+      let q = (head_major (major_in i) (argument_in i) bs at mid a).1 in
+      let e : major_in i ≡ major_number h.major = sym q ∙ p in
+      let a' = subst (λ m. StandsAt (HeadOf m (argument_in i)) bs at mid) e a in
+      let (n, m) = head_once (major_number h.major) (argument_in i) h.argument bs at mid h.next a' st in
+      by (body_in i) end (rw (← e, ← n) (body_of d i item.2.1)) (subst (λ x. StandsAt (λ w. w ≡ body_in i) bs x end) m b);
+  within = later r within;
+}
+  where
+    later : (r : Option ℕ) → EndsWithin bs h.next r → EndsWithin bs at r
+    later (Some end) (a, b) = (omega arith, b)
+    later None w = tt
+
+-- BY MAJOR TYPE
+
+ends_at : (bs : List ℕ) (at end n : ℕ) (w : List ℕ) → StandsAt (λ v. v ≡ w) bs at end → length w ≡ n → end ≡ at + n
+ends_at bs at end n w (h, k, e) l = (let z = part_length bs at end h k in let y = ap length e in omega arith)
 
 module _ (d : ℕ) (bs : List ℕ) (at : ℕ) (h : ItemHead) (there : HeadTold bs at (Some h)) where
-  pub skips_plain : (major_number h.major ≡ 0) ⊎ ((major_number h.major ≡ 1) ⊎ (major_number h.major ≡ 7)) → Skips d bs at (Some h.next)
-  skips_plain m = skips_by d bs at h (Some h.next) there (omega arith, there.0.1) (λ i end v e n st. ap Some (let z = ends_at bs h.next end 0 (body_in i) st (plain_body i (major_number h.major) e m) in let y : h.next ≡ end = omega arith in y))
+  pub skips_plain : (h.major ≡ Unsigned) ⊎ ((h.major ≡ Negative) ⊎ (h.major ≡ Simple)) → Skips d bs at (Some h.next)
+  skips_plain m = skips_by d bs at h (Some h.next) there (omega arith, there.0.1) (λ w end b st. ap Some (omega (arith, ends_at bs h.next end 0 w st (size w b m))))
+    where
+      size : (w : List ℕ) → BodyOf d (major_number h.major) h.argument w → (h.major ≡ Unsigned) ⊎ ((h.major ≡ Negative) ⊎ (h.major ≡ Simple)) → length w ≡ 0
+      size w b (inl e) = rw e at b
+      size w b (inr (inl e)) = rw e at b
+      size w b (inr (inr e)) = rw e at b
 
-  pub skips_string : (r : Option ℕ) → (major_number h.major ≡ 2) ⊎ (major_number h.major ≡ 3) → BytesEnd h.argument bs h.next r → Skips d bs at r
-  skips_string (Some end) m (e, l) =
-      skips_by d bs at h (Some end) there (omega arith, l) (λ i stop v f n st. ap Some (let z = ends_at bs h.next stop (argument_in i) (body_in i) st (string_body i (major_number h.major) f m) in let y : end ≡ stop = omega arith in y))
-  skips_string None m l =
-      skips_by d bs at h None there tt (λ i stop v f n st. absurd (let z = ends_at bs h.next stop (argument_in i) (body_in i) st (string_body i (major_number h.major) f m) in let y = st.1 in omega arith))
+  pub skips_string : (r : Option ℕ) → (h.major ≡ Bytes) ⊎ (h.major ≡ Text) → BytesEnd h.argument bs h.next r → Skips d bs at r
+  skips_string r m l = skips_by d bs at h r there (within r l) (λ w end b st. ends r l end (ends_at bs h.next end h.argument w st (size w b m)) st.1)
+    where
+      size : (w : List ℕ) → BodyOf d (major_number h.major) h.argument w → (h.major ≡ Bytes) ⊎ (h.major ≡ Text) → length w ≡ h.argument
+      size w b (inl e) = rw e at b
+      size w b (inr e) = rw e at b
 
-  pub skips_inner : (k : ℕ) (r : Option ℕ) → inner_count (major_number h.major) h.argument k → SkipsItems d k bs h.next r → Skips d bs at r
-  skips_inner k r m s =
-      skips_by d bs at h r there s.within (λ i stop v f n st.
-      let (is, c, g) = inner_body d i (major_number h.major) k f v (subst (λ x. inner_count (major_number h.major) x k) (sym n) m) in
-      s.ends is stop c (st.0, st.1, g (take (stop - h.next) (drop h.next bs)) st.2))
+      within : (r : Option ℕ) → BytesEnd h.argument bs h.next r → EndsWithin bs h.next r
+      within (Some end) (e, l) = (omega arith, l)
+      within None l = tt
+
+      ends : (r : Option ℕ) → BytesEnd h.argument bs h.next r → (end : ℕ) → end ≡ h.next + h.argument → end ≤ length bs → r ≡ Some end
+      ends (Some stop) (e, l) end f k = ap Some (omega arith)
+      ends None l end f k = absurd (omega arith)
+
+  pub skips_inner : (m : Major) (k : ℕ) (r : Option ℕ) → h.major ≡ m → ((w : List ℕ) → BodyOf d (major_number m) h.argument w → Inner d k w) → SkipsItems d k bs h.next r → Skips d bs at r
+  skips_inner m k r e inner s =
+      skips_by d bs at h r there s.within (λ w end b st.
+      let (is, c, v) = inner w (rw e at b) in
+      s.ends is end c (st.0, st.1, rw st.2 v))
 
 -- each item takes a byte
 items_long : (is : Items) → how_many is ≤ length (encode_items is)
