@@ -1,12 +1,12 @@
 -- Items by their heads, at places.
-use Rattle.std.proofs.Common.{◌≡◌, ℕ, zero, suc, ◌+◌, ◌-◌, ◌<◌, ◌≤◌, true, List, ◌++◌, length, take, drop, Some, None, Option, sym, refl, ap, ◌∙◌, subst, arith, length-append}
+use Rattle.std.proofs.Common.{◌≡◌, ℕ, zero, suc, ◌+◌, ◌-◌, ◌<◌, ◌≤◌, true, List, ◌++◌, length, get_or, take, drop, Some, None, Option, sym, refl, ap, ◌∙◌, subst, arith, length-append}
 use Rattle.std.proofs.lemmas.List.{take_at, drop_at, drop-drop, length-drop}
 use Rattle.cbor.specs.declared.Major.{Major}
 use Rattle.cbor.specs.declared.Major.TheVariants.{Unsigned, Negative, Bytes, Text, Array, Map, Tag, Simple}
 use Rattle.cbor.specs.Encoding.{all_bytes, major_number}
 use Rattle.cbor.specs.Prefix.{Any, StandsAt}
 use Rattle.cbor.specs.Reading.{HeadOf}
-use Rattle.cbor.proofs.Numbers.{bytes_drop}
+use Rattle.cbor.proofs.Numbers.{bytes_drop, bytes_typed}
 use Rattle.cbor.proofs.Heads.{head_not_empty}
 use Rattle.cbor.proofs.Places.{part_length}
 use Rattle.cbor.proofs.Writes.{major_below}
@@ -130,12 +130,12 @@ module _ (d r : ℕ) (bs : List ℕ) (at : ℕ) (h : ItemHead) where
   follow_never cut p s = tt
   follow_never (wrong z) p s = tt
 
-pub no_head : (d : ℕ) (bs : List ℕ) (at : ℕ) → all_bytes bs ≡ true → HeadTold bs at None → Measured d bs at None
-no_head d bs at all none r = rw (walk_is d r (drop at bs)) (stop_never (walk_head d r (drop at bs)) (follow d r) (no_head_never d r bs at all none))
+pub no_head : (d : ℕ) (bs : List ℕ) (at : ℕ) → ((i : ℕ) → get_or bs i 0 < 256) → HeadTold bs at None → Measured d bs at None
+no_head d bs at typed none r = rw (walk_is d r (drop at bs)) (stop_never (walk_head d r (drop at bs)) (follow d r) (no_head_never d r bs at (bytes_typed bs typed) none))
 
-module _ (d : ℕ) (bs : List ℕ) (at : ℕ) (h : ItemHead) (all : all_bytes bs ≡ true) (there : HeadTold bs at (Some h)) where
+module _ (d : ℕ) (bs : List ℕ) (at : ℕ) (h : ItemHead) (typed : (i : ℕ) → get_or bs i 0 < 256) (there : HeadTold bs at (Some h)) where
   pub no_body : BodyMeasured d bs h.major h.argument h.next None → Measured d bs at None
-  no_body s r = rw (walk_is d r (drop at bs)) (follow_never d r bs at h (walk_head d r (drop at bs)) (head_so d r bs at h all there) (s r))
+  no_body s r = rw (walk_is d r (drop at bs)) (follow_never d r bs at h (walk_head d r (drop at bs)) (head_so d r bs at h (bytes_typed bs typed) there) (s r))
 
   pub with_body : (own n : ℕ) (b : Measurement) → (own ≡ reach_of_head (take (h.next - at) (drop at bs))) × (own ≤ length (take (h.next - at) (drop at bs))) → n ≡ joined own (h.next - at) b.reach → BodyMeasured d bs h.major h.argument h.next (Some b)
       → Bounds bs at b.end n × ((r : ℕ) → DoneSo bs at b.end (n, b.after) (walk d r (drop at bs)))
@@ -145,7 +145,7 @@ module _ (d : ℕ) (bs : List ℕ) (at : ℕ) (h : ItemHead) (all : all_bytes bs
         (rw f (joined_within at h.next b.end own b.reach (omega (arith, there.1)) x), y),
         λ r. rw (walk_is d r (drop at bs))
             (subst (λ k. DoneSo bs at b.end (k, b.after) (on_told (walk_head d r (drop at bs)) (follow d r))) g
-            (follow_so d r bs at h (walk_head d r (drop at bs)) b.end b.reach b.after there.0.0 (omega arith) (head_so d r bs at h all there) (s r))),
+            (follow_so d r bs at h (walk_head d r (drop at bs)) b.end b.reach b.after there.0.0 (omega arith) (head_so d r bs at h (bytes_typed bs typed) there) (s r))),
       )
 
 -- FOR CALLERS
