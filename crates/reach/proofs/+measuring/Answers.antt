@@ -18,7 +18,7 @@ measure-returns-in_err-body t c =
 pub measure-returns : goal.measure-returns
 measure-returns t c =
     with_body _ c.args.bytes.now c.args.at c.in_ok-head.head (λ i. omega (arith, c.type_inv.bytes i)) c.in_ok-head.ensures
-    c.head_reach-own.result c.join.result c.in_ok-body.body c.head_reach-own.ensures c.join.ensures c.in_ok-body.ensures
+    _ _ c.in_ok-body.body c.head_reach-own.ensures c.join.ensures c.in_ok-body.ensures
 
 -- elements
 
@@ -36,7 +36,7 @@ measure_elements-loop-preserved t c =
     let e = c.in_ok-element.element in
     let (b, s) = c.in_ok-element.ensures in
     many_more _ _ _ _ _ _ _ (omega arith) c.loop.invariant
-    _ e.end e.reach e.after c.join-reach.result (omega arith) b (s 0) c.join-reach.ensures
+    _ _ _ e.after _ (omega arith) b (s 0) c.join-reach.ensures
 
 pub measure_elements-returns : goal.measure_elements-returns
 measure_elements-returns t c =
@@ -50,7 +50,7 @@ pub measure_entries-returns-in_err-key : goal.measure_entries-returns-in_err-key
 measure_entries-returns-in_err-key t c =
     let i : c.args.depth - 1 ≡ c.in_ok-inner.inner = omega arith in
     rw (c.from_residual-in_err-key.ensures, i)
-    (λ h. key_cut _ _ _ _ _ _ _ (omega arith) c.loop-left.invariant (c.in_err-key.ensures (c.loop-left.left - 1)))
+    (λ h. key_cut _ _ _ _ _ _ _ (omega arith) c.loop-left.invariant (c.in_err-key.ensures _))
 
 pub measure_entries-returns-in_err-value : goal.measure_entries-returns-in_err-value
 measure_entries-returns-in_err-value t c =
@@ -59,7 +59,7 @@ measure_entries-returns-in_err-value t c =
     let i : c.args.depth - 1 ≡ c.in_ok-inner.inner = omega arith in
     rw (c.from_residual-in_err-value.ensures, i)
     (λ h. value_cut _ _ _ _ _ _ _ (omega arith) c.loop-left.invariant
-    k.end k.reach k.after b (s (c.loop-left.left - 1)) (c.in_err-value.ensures 0))
+    _ _ k.after b (s _) (c.in_err-value.ensures 0))
 
 pub measure_entries-loop-left-preserved : goal.measure_entries-loop-left-preserved
 measure_entries-loop-left-preserved t c =
@@ -68,8 +68,7 @@ measure_entries-loop-left-preserved t c =
     let (b, s) = c.in_ok-key.ensures in
     let (d, u) = c.in_ok-value.ensures in
     pairs_more _ _ _ _ _ _ _ (omega arith) c.loop-left.invariant
-    k.end k.reach k.after b (s (c.loop-left.left - 1)) v.end v.reach v.after
-    c.key_reach.result c.join-entry.result c.join-reach.result d (u 0) c.key_reach.ensures c.join-entry.ensures c.join-reach.ensures
+    _ _ k.after b (s _) _ _ v.after _ _ _ d (u 0) c.key_reach.ensures c.join-entry.ensures c.join-reach.ensures
 
 pub measure_entries-returns : goal.measure_entries-returns
 measure_entries-returns t c =

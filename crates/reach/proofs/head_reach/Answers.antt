@@ -3,7 +3,7 @@ use Rattle.reach.proofs.Parts.{no_head_up, head_up}
 use Rattle.reach.proofs.head_reach.Goals as goal
 
 pub returns-in_default : goal.returns-in_default
-returns-in_default c = (sym (no_head_up c.args.head.now c.in_default.ensures.cases), omega arith)
+returns-in_default c = (sym (no_head_up _ c.in_default.ensures.cases), omega arith)
 
 pub returns : goal.returns
-returns c = head_up c.args.head.now c.in-Some.first.now c.in-Some.rest.now c.from.result c.last_up.result c.join.result c.in-Some.ensures.cases.0 c.from.ensures c.last_up.ensures c.join.ensures
+returns c = head_up _ _ _ _ _ _ c.in-Some.ensures.cases.0 c.from.ensures c.last_up.ensures c.join.ensures

@@ -7,4 +7,4 @@ pub returns : goal.returns
 returns c =
     let h : LastOther c.args.bytes.now c.rposition.result = search rules in
     let e : MatchOption c.rposition.result (c.map_or.result ≡ 0) (λ i. c.map_or.result ≡ i + 1) = search rules in
-    last_up_is c.args.bytes.now c.rposition.result c.map_or.result (λ k. omega (arith, c.type_inv.bytes k)) h e
+    last_up_is c.args.bytes.now c.rposition.result _ (λ k. omega (arith, c.type_inv.bytes k)) h e

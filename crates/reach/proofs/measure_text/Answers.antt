@@ -3,16 +3,16 @@ use Rattle.reach.proofs.Texts.{text_start, text_more, text_cut, text_end}
 use Rattle.reach.proofs.measure_text.Goals as goal
 
 pub loop-left-init : goal.loop-left-init
-loop-left-init c = text_start c.args.bytes.now c.args.at c.args.size c.requires
+loop-left-init c = text_start _ _ _ c.requires
 
 pub returns-in_err-char : goal.returns-in_err-char
 returns-in_err-char c =
-    rw c.from_residual.ensures (text_cut c.args.bytes.now c.args.at c.args.size c.loop-left.end c.loop-left.left c.loop-left.reach (omega arith) c.loop-left.invariant c.in_err-char.ensures)
+    rw c.from_residual.ensures (text_cut _ _ _ _ _ _ (omega arith) c.loop-left.invariant c.in_err-char.ensures)
 
 pub loop-left-preserved : goal.loop-left-preserved
 loop-left-preserved c =
-    text_more c.args.bytes.now c.args.at c.args.size c.loop-left.end c.loop-left.left c.loop-left.reach (omega arith) c.loop-left.invariant
-    c.in_ok-char.char c.join-reach.result c.in_ok-char.ensures c.join-reach.ensures
+    text_more _ _ _ _ _ _ (omega arith) c.loop-left.invariant
+    c.in_ok-char.char _ c.in_ok-char.ensures c.join-reach.ensures
 
 pub returns : goal.returns
-returns c = text_end c.args.bytes.now c.args.at c.args.size c.loop-left.end c.loop-left.left c.loop-left.reach (omega arith) c.loop-left.invariant
+returns c = text_end _ _ _ _ _ _ (omega arith) c.loop-left.invariant
