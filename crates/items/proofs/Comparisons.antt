@@ -1,7 +1,8 @@
 -- Byte strings compared: the index that decides.
-use Rattle.std.proofs.Common.{◌≡◌, ℕ, zero, suc, ◌<◌, ◌≤◌, Bool, true, false, ◌||◌, ltb, List, [], ◌∷◌, length, get_or, take, drop, Some, None, Option, Less, Equal, Greater, Ordering, Bor, sym, refl, ap, ◌∙◌, arith}
+use Rattle.std.proofs.Common.{◌≡◌, ℕ, zero, suc, ◌<◌, ◌≤◌, true, ltb, List, [], ◌∷◌, length, get_or, take, drop, Some, None, Option, Less, Equal, Greater, Ordering, Bor, sym, refl, ap, ◌∙◌, arith}
 use Rattle.std.proofs.lemmas.List.{drop_more, drop_all, take_all}
 use Rattle.std.proofs.lemmas.Bool.{lt-ltb, eq-eqb}
+use Rattle.std.proofs.Math.Bool.{or-true}
 use Rattle.std.proofs.lemmas.Bool.Decides.{nat_tests}
 use Rattle.std.proofs.lemmas.Grind.{common_steps, same_number_lists}
 use Rattle.std.specs.Ordering.{nat_cmp}
@@ -26,11 +27,7 @@ decides (suc i) (x ∷ xs) [] (e, h) = absurd (let z = ap length e in omega arit
 decides (suc i) (x ∷ xs) (y ∷ ys) (e, h) =
     let p : x ≡ y = cc in
     let q : take i xs ≡ take i ys = cc in
-    rw (eq-eqb x y p, decides i xs ys (q, h)) (or_true (ltb x y))
-  where
-    or_true : (b : Bool) → (b || true) ≡ true
-    or_true true = refl
-    or_true false = refl
+    rw (eq-eqb x y p, decides i xs ys (q, h)) (or-true (ltb x y))
 
 abbrev Decides : ℕ → List ℕ → List ℕ → Type 0
 Decides i xs ys = DecidedAt i xs ys × (before xs ys ≡ true)

@@ -5,7 +5,7 @@ use Rattle.std.proofs.lemmas.Bool.{le-leb, leb-true, and_parts, and_from, lt-ltb
 use Rattle.std.specs.Bool.{then_some}
 use Rattle.cbor.specs.Prefix.{Begins}
 use Rattle.cbor.specs.Utf8.{Range, tail, second, leads, tails, first_in, utf8_after, TextOf}
-use Rattle.cbor.proofs.Places.{part_more, at_first}
+use Rattle.cbor.proofs.Places.{part_more, start_of, at_first}
 use Rattle.cbor.proofs.Utf8.{first_in_parts, Fair, tails_fair}
 use Rattle.items.specs.Text.{Runs, part, ByteIn, TailsTold, CharTold, FirstWrong, Blocks}
 
@@ -195,9 +195,6 @@ module _ (left : ℕ) (bs : List ℕ) (at : ℕ) (inside : at < length bs) where
 
 -- THE WHOLE TEXT
 
-front : (bs : List ℕ) (p : ℕ) → part bs 0 p ≡ take p bs
-front bs p = ap (λ k. take k bs) (let z : p - 0 ≡ p = omega arith in z)
-
 module _ (n : ℕ) (bs : List ℕ) (at : ℕ) (before : Runs [] (part bs 0 at) []) where
   -- one character more, and then bytes below 128
   pub chars_more : (next end : ℕ) → at ≤ next → next ≤ end → Runs [] (part bs at next) [] → Runs [] (part bs next end) [] → Runs [] (part bs 0 end) []
@@ -207,7 +204,7 @@ module _ (n : ℕ) (bs : List ℕ) (at : ℕ) (before : Runs [] (part bs 0 at) [
   char_wrong : (p : ℕ) → at < n → p < length bs → CharTold (n - at) bs at (Err p) → (p < n) × (p < length bs) × Begins (TextOf n) (take p bs) × (Begins (TextOf n) (take (suc p) bs) → ⊥)
   char_wrong p h l ((k, m), (rs, q, e, o, f)) =
       let z = o (omega arith) in
-      let r : Runs [] (take p bs) rs = subst (λ w. Runs [] w rs) (front bs p) (part_runs bs 0 at p [] [] rs (omega arith) k before q) in
+      let r : Runs [] (take p bs) rs = subst (λ w. Runs [] w rs) (start_of p bs) (part_runs bs 0 at p [] [] rs (omega arith) k before q) in
       let y = length-take-le p bs m in
       let w : n - at - (p - at) ≡ n - length (take p bs) = omega arith in
       let t : take (suc p) bs ≡ take p bs ++ get_or bs p 0 ∷ [] = ap (λ j. take j bs) (let x : suc p ≡ p + 1 = omega arith in x) ∙ take_more bs p 0 l in
@@ -216,7 +213,7 @@ module _ (n : ℕ) (bs : List ℕ) (at : ℕ) (before : Runs [] (part bs 0 at) [
   -- all of the bytes begin a text
   char_cut : (p : ℕ) → at < n → length bs ≤ p → CharTold (n - at) bs at (Err p) → Begins (TextOf n) (take n bs)
   char_cut p h l ((k, m), (rs, q, e, o, f)) =
-      let r : Runs [] (take p bs) rs = subst (λ w. Runs [] w rs) (front bs p) (part_runs bs 0 at p [] [] rs (omega arith) k before q) in
+      let r : Runs [] (take p bs) rs = subst (λ w. Runs [] w rs) (start_of p bs) (part_runs bs 0 at p [] [] rs (omega arith) k before q) in
       let y = length-take-le p bs m in
       let t : take p bs ≡ take n bs = take_all p bs l ∙ sym (take_all n bs (omega arith)) in
       subst (Begins (TextOf n)) t (runs_begin n (take p bs) rs r (omega arith))
@@ -230,4 +227,4 @@ module _ (n : ℕ) (bs : List ℕ) (at : ℕ) (before : Runs [] (part bs 0 at) [
   pub chars_whole : at ≡ min n (length bs) → Begins (TextOf n) (take n bs)
   chars_whole e =
       let t : take at bs ≡ take n bs = ap (λ j. take j bs) e ∙ take_min n bs in
-      runs_begin n (take n bs) [] (subst (λ w. Runs [] w []) (front bs at ∙ t) before) (omega (arith, length-take n bs))
+      runs_begin n (take n bs) [] (subst (λ w. Runs [] w []) (start_of at bs ∙ t) before) (omega (arith, length-take n bs))

@@ -1,5 +1,5 @@
 // Heads and items of bytes that are known to begin with a valid item.
-// Places are plain numbers: one with its bound in its type would be made and taken apart at each call.
+// Public functions take any place and hand back plain ends: a place with its bound in its type would be made and taken apart at each call.
 ghost use Rattle.std.specs.Prelude.{◌≤◌, length};
 ghost use Rattle.items.specs.Skipping.{HeadTold, PartTold, Skips, SkipsItems};
 

@@ -1,5 +1,5 @@
 // Texts of an announced length, of which some bytes are there.
-// Places are plain numbers: one with its bound in its type would be made and taken apart at each call.
+// Public functions take any place and hand back plain ends: a place with its bound in its type would be made and taken apart at each call.
 ghost use Rattle.std.specs.Prelude.{◌≡◌, suc, ◌<◌, ◌≤◌, ℕ, length, slice_index};
 ghost use Rattle.cbor.specs.Utf8.{tails, second, first_in};
 ghost use Rattle.items.specs.Text.{ByteIn, TailsTold, CharTold, FirstWrong};
@@ -54,7 +54,7 @@ fn has_byte_in(bytes: &[u8], at: usize, range: ByteRange) -> bool
 }
 
 // Where the bytes after a character's first one end, or the place of the first that is missing or wrong.
-// Both are places, so that `?` and `match` go on with the one and stop at the other; a type for each would only be taken apart again.
+// Both are places: the match goes on at the one and tells the other, and a type for each would be taken apart there at once.
 fn tails_end(bytes: &[u8], at: usize, first: u8) -> Result<usize, usize>
     requires { at ≤ length bytes.now }
     ensures { TailsTold (tails first) bytes.now at result }

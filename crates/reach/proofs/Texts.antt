@@ -1,7 +1,8 @@
 -- Characters and texts, at places.
-use Rattle.std.proofs.Common.{◌≡◌, ℕ, zero, suc, ◌+◌, ◌-◌, ◌<◌, ◌≤◌, Bool, true, false, cond, ◌&&◌, ltb, List, [], ◌∷◌, ◌++◌, length, get_or, drop, Some, None, Bor, sym, refl, ap, ◌∙◌, subst, arith}
+use Rattle.std.proofs.Common.{◌≡◌, ℕ, zero, suc, ◌+◌, ◌-◌, ◌<◌, ◌≤◌, false, cond, ltb, List, [], ◌∷◌, ◌++◌, length, get_or, drop, Some, None, Bor, sym, refl, ap, ◌∙◌, subst, arith}
 use Rattle.std.proofs.lemmas.List.{drop_all, length-drop}
 use Rattle.std.proofs.lemmas.Bool.{lt-leb, cond_both}
+use Rattle.std.proofs.Math.Bool.{and-false}
 use Rattle.cbor.specs.Utf8.{Range, tail, second, leads, tails}
 use Rattle.items.proofs.Texts.{Follows, tails_follow}
 use Rattle.std.specs.Int.{from_bool}
@@ -73,10 +74,6 @@ pub char_past : (bs : List ℕ) (at left : ℕ) → IsItemAt bs at None → Neve
 unfolding walk_one
 char_past bs at left (a, b, c, l, d) = rw (drop_all at bs l) tt
 
-and_no : (b : Bool) → (b && false) ≡ false
-and_no true = refl
-and_no false = refl
-
 module _ (bs : List ℕ) (at left size : ℕ) (first : Bor ℕ) (there : IsItemAt bs at (Some first)) (is : size ≡ suc (length (tails first.now))) where
   size_is : size ≡ suc (length (tails (get_or bs at 0)))
   size_is = is ∙ ap (λ b. suc (length (tails b))) (lent_is bs at first there)
@@ -91,7 +88,7 @@ module _ (bs : List ℕ) (at left size : ℕ) (first : Bor ℕ) (there : IsItemA
   unfolding walk_one
   char_over l =
       let h = size_is in
-      let e : first_in left (get_or bs at 0) ≡ false = rw (lt-leb (suc (length (tails (get_or bs at 0)))) left (omega arith)) (and_no (leads (get_or bs at 0))) in
+      let e : first_in left (get_or bs at 0) ≡ false = rw (lt-leb (suc (length (tails (get_or bs at 0)))) left (omega arith)) (and-false (leads (get_or bs at 0))) in
       rw (at_first bs at there.3.0, e) tt
 
 -- A TEXT

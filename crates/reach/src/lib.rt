@@ -1,5 +1,5 @@
 // How far items reach that are known to be valid, and how many come after them.
-// Places are plain numbers: one with its bound in its type would be made and taken apart at each call.
+// Public functions take any place and hand back plain ends: a place with its bound in its type would be made and taken apart at each call.
 
 #![tactic(auto)]
 
@@ -34,7 +34,7 @@ struct Extent {
 }
 
 // The reach of a part and what follows it: the later place wins.
-// 0 stands for none, as in what is said of it: an Option would be made of each number and turned into it again.
+// 0 stands for none: an Option would be turned into this number for each Extent and Measurement, whose reach callers compare.
 fn join(first: usize, size: usize, second: usize) -> usize
     requires { size + second < 18446744073709551616 }
     ensures { result ≡ joined first size second }
