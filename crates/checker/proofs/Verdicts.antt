@@ -15,7 +15,8 @@ use Rattle.prefixes.proofs.Strings.{text_holds}
 use Rattle.prefixes.proofs.Verdict.{check_is_right}
 use Rattle.checker.specs.declared.Stop.{Stop}
 use Rattle.checker.specs.declared.Stop.TheVariants.{Cut, Wrong}
-use Rattle.checker.specs.Ends.{Stops, Ends, BytesTold}
+use Rattle.checker.specs.Checked.{Right}
+use Rattle.checker.specs.Ends.{verdict_of, Stops, Ends, BytesTold}
 
 -- THE WHOLE
 
@@ -29,11 +30,9 @@ module _ (bs : List ℕ) (bytes : all_bytes bs ≡ true) (few : length bs < 1152
   pub is_past : (end : ℕ) → Ends bs 0 (Ok end) (walk 32 0 bs) → end < length bs → RightVerdict bs (wrong_at end)
   is_past end (i, (a, b, e)) h = verdict_is (wrong_at end) (rw (e, drop_more bs end 0 h) (ap (λ p. wrong_at p) (part_length bs 0 end a b ∙ (let z : end - 0 ≡ end = omega arith in z))))
 
-  pub is_prefix : (s : Stop) → s ≡ Cut → Stops 0 s (walk 32 0 bs) → RightVerdict bs short
-  is_prefix s q e = let z : walk 32 0 bs ≡ cut = subst (λ s. Stops 0 s (walk 32 0 bs)) q e in verdict_is short (rw z)
-
-  pub is_wrong : (s : Stop) (p : ℕ) → s ≡ Wrong p → Stops 0 s (walk 32 0 bs) → RightVerdict bs (wrong_at p)
-  is_wrong s p q e = let z = subst (λ s. Stops 0 s (walk 32 0 bs)) q e in verdict_is (wrong_at p) (rw z.1 (ap (λ p. wrong_at p) (let z : p - 0 ≡ p = omega arith in z)))
+  pub is_stop : (s : Stop) → Stops 0 s (walk 32 0 bs) → Right bs (verdict_of s)
+  is_stop Cut e = verdict_is short (rw e)
+  is_stop (Wrong p) (h, e) = verdict_is (wrong_at p) (rw e (ap (λ p. wrong_at p) (let z : p - 0 ≡ p = omega arith in z)))
 
 -- BY WHAT BEGINS A WORD
 

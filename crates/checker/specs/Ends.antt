@@ -5,11 +5,18 @@ use Rattle.cbor.specs.Encoding.{major_number}
 use Rattle.items.specs.declared.skipping.ItemHead.{ItemHead}
 use Rattle.prefixes.specs.Walks.{Told, done, cut, wrong}
 use Rattle.checker.specs.declared.Stop.{Stop}
+use Rattle.checker.specs.declared.Verdict.{Verdict}
+use Rattle.checker.specs.declared.Verdict.TheVariants as Verdicts
 use Rattle.checker.specs.declared.Stop.TheVariants.{Cut, Wrong}
 
 -- a word from one place to another, and what it says
 abbrev pub Ended : {I : Type 0} → List ℕ → ℕ → ℕ → I → Told I → Type 0
 Ended bs at end i t = (at ≤ end) × (end ≤ length bs) × (t ≡ done i (take (end - at) (drop at bs)) (drop end bs))
+
+-- what a stop says of all of the bytes
+abbrev pub verdict_of : Stop → Verdict
+verdict_of Cut = Verdicts.Prefix
+verdict_of (Wrong p) = Verdicts.Wrong p
 
 abbrev pub Stops : {I : Type 0} → ℕ → Stop → Told I → Type 0
 Stops at Cut t = t ≡ cut

@@ -2,9 +2,13 @@
 
 #![tactic(auto)]
 
-ghost use Rattle.checker.specs.Checked.{Checked};
+ghost use Rattle.std.specs.Prelude.{◌≡◌, Some};
+ghost use Rattle.checker.specs.Checked.{Checked, line};
+ghost use Rattle.checker.specs.Ends.{verdict_of};
 
 use items::skipping::DEPTH;
+use std::error::Error;
+use std::fmt;
 use walking::walk;
 
 mod heads;
@@ -20,24 +24,60 @@ pub const LENT: usize = 64;
 // Bytes from 2^60 on are not looked at.
 pub const TOO_MANY_BYTES: usize = 1152921504606846976;
 
-#[derive(Clone, Copy)]
+#[derive(Clone, Copy, Debug, PartialEq, Eq)]
 pub enum Verdict {
     Complete,
     Prefix,
     Wrong(usize),
 }
 
-#[derive(Clone, Copy)]
+// The line of a verdict, without its line feed.
+impl fmt::Display for Verdict {
+    ghost output = { λ v. Some (line v) };
+
+    fn fmt<W: fmt::Write>(&self, f: &mut fmt::Formatter<W>) -> fmt::Result {
+        match self {
+            Verdict::Complete => write!(f, "complete"),
+            Verdict::Prefix => write!(f, "prefix"),
+            Verdict::Wrong(place) => write!(f, "wrong at {place}"),
+        }
+    }
+}
+
+#[derive(Clone, Copy, Debug, PartialEq, Eq)]
 pub enum NotChecked {
     TooLittleLent,
     TooManyBytes,
 }
 
+impl fmt::Display for NotChecked {
+    fn fmt<W: fmt::Write>(&self, f: &mut fmt::Formatter<W>) -> fmt::Result {
+        match self {
+            NotChecked::TooLittleLent => write!(f, "fewer than {LENT} numbers are lent"),
+            NotChecked::TooManyBytes => write!(f, "there are 2^60 bytes or more"),
+        }
+    }
+}
+
+impl Error for NotChecked {}
+
 // Why a walk over an item ends before the item does: all bytes that are there begin one, or none begins with this byte.
-#[derive(Clone, Copy)]
+// An Option would say the same, but not which of the two is None.
+#[derive(Clone, Copy, Debug, PartialEq, Eq)]
 enum Stop {
     Cut,
     Wrong(usize),
+}
+
+impl From<Stop> for Verdict {
+    ghost from_gives = { λ stop v. v ≡ verdict_of stop };
+
+    fn from(stop: Stop) -> Verdict {
+        match stop {
+            Stop::Cut => Verdict::Prefix,
+            Stop::Wrong(place) => Verdict::Wrong(place),
+        }
+    }
 }
 
 pub fn check(bytes: &[u8], lent: &mut [u64]) -> Result<Verdict, NotChecked>
@@ -49,13 +89,9 @@ pub fn check(bytes: &[u8], lent: &mut [u64]) -> Result<Verdict, NotChecked>
     if bytes.len() >= TOO_MANY_BYTES {
         return Err(NotChecked::TooManyBytes);
     }
-    let stop = match walk(bytes, 0, DEPTH, 0, lent) {
-        Ok(end) if end < bytes.len() => return Ok(Verdict::Wrong(end)),
-        Ok(_) => return Ok(Verdict::Complete),
-        Err(stop) => stop,
-    };
-    match stop {
-        Stop::Cut => Ok(Verdict::Prefix),
-        Stop::Wrong(place) => Ok(Verdict::Wrong(place)),
+    match walk(bytes, 0, DEPTH, 0, lent) {
+        Ok(end) if end < bytes.len() => Ok(Verdict::Wrong(end)),
+        Ok(_) => Ok(Verdict::Complete),
+        Err(stop) => Ok(stop.into()),
     }
 }
