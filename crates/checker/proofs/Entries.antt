@@ -1,5 +1,5 @@
 -- Keys and values one after another, at places.
-use Rattle.std.proofs.Common.{◌≡◌, ℕ, suc, ◌+◌, ◌-◌, ◌<◌, ◌≤◌, min, Bool, true, false, List, [], ◌∷◌, length, get_or, drop, Some, None, Ok, Err, Option, Result, sym, refl, ap, ◌∙◌, subst, inl, inr, arith}
+use Rattle.std.proofs.Common.{◌≡◌, ℕ, slice_range, suc, ◌+◌, ◌-◌, ◌<◌, ◌≤◌, min, Bool, true, false, List, [], ◌∷◌, length, get_or, drop, Some, None, Ok, Err, Option, Result, sym, refl, ap, ◌∙◌, subst, inl, inr, arith}
 use Rattle.std.proofs.lemmas.List.{length-drop}
 use Rattle.std.proofs.lemmas.Bool.{lt-ltb, le-ltb, cases_lt}
 use Rattle.cbor.specs.Encoding.{all_bytes}
@@ -16,8 +16,9 @@ use Rattle.prefixes.specs.Walks.{Told, done, wrong, on_told, carry, odd_at, sett
 use Rattle.checker.specs.declared.Stop.{Stop}
 use Rattle.checker.specs.declared.Stop.TheVariants.{Cut, Wrong}
 use Rattle.checker.specs.declared.keys.KeySpan.{KeySpan}
-use Rattle.checker.specs.Ends.{Ended, Stops, Ends}
-use Rattle.checker.specs.Keys.{part, AfterLast, LastAt}
+use Rattle.reach.specs.Measured.{Ended}
+use Rattle.checker.specs.Ends.{Stops, Ends}
+use Rattle.checker.specs.Keys.{AfterLast, LastAt}
 use Rattle.checker.proofs.Steps.{then_ends, stop_ends, wrong_is}
 use Rattle.reach.specs.Measured.{Measured}
 use Rattle.reach.proofs.Measures.{as_walked}
@@ -41,8 +42,8 @@ not_after xs ys (Before i) c h = absurd (h i refl)
 not_after xs ys Same c h = false_from (before xs ys) (λ e. before_irreflexive xs (subst (λ z. before xs z ≡ true) (sym c) e))
 not_after xs ys (After i) c h = false_from (before xs ys) (λ e. before_irreflexive xs (before_transitive xs ys xs e c.1))
 
-pub key_not_after : (bs : List ℕ) (last : Option KeySpan) (s : KeySpan) (at end : ℕ) (r : Comparison) → last ≡ Some s → Compared (part bs s.start s.end) (part bs at end) r → ((i : ℕ) → r ≡ Before i → ⊥) → AfterLast bs last at end false
-key_not_after bs last s at end r e c h = subst (λ l. AfterLast bs l at end false) (sym e) (not_after (part bs s.start s.end) (part bs at end) r c h)
+pub key_not_after : (bs : List ℕ) (last : Option KeySpan) (s : KeySpan) (at end : ℕ) (r : Comparison) → last ≡ Some s → Compared (slice_range bs s.start s.end) (slice_range bs at end) r → ((i : ℕ) → r ≡ Before i → ⊥) → AfterLast bs last at end false
+key_not_after bs last s at end r e c h = subst (λ l. AfterLast bs l at end false) (sym e) (not_after (slice_range bs s.start s.end) (slice_range bs at end) r c h)
 
 -- REFUSING A KEY
 
@@ -56,7 +57,7 @@ module _ (bs : List ℕ) (d n : ℕ) (s : KeySpan) (m : Measurement) (measured :
       let (e, i, r, o, (w, a, ended)) = at_last in
       let (x, y, z) = as_walked d bs s.start (Some m) measured w s.end (k.1, a) ended in
       let (g, h) = measured.0 in
-      ap (λ l. odd_at k.1 l q) e ∙ ap (λ j. odd_at j (part bs s.start s.end) q) (sym y) ∙ odd_part bs s.start (s.end - s.start) m.reach q (omega arith) (omega arith)
+      ap (λ l. odd_at k.1 l q) e ∙ ap (λ j. odd_at j (slice_range bs s.start s.end) q) (sym y) ∙ odd_part bs s.start (s.end - s.start) m.reach q (omega arith) (omega arith)
 
 measured_none : (bs : List ℕ) (d n : ℕ) (s : KeySpan) (ls : List (List ℕ × ℕ)) → Measured d bs s.start None → LastAt bs d n (Some s) ls → ⊥
 measured_none bs d n s [] none l = l
@@ -105,27 +106,27 @@ module _ (bs : List ℕ) (d : ℕ) (last : Option KeySpan) (s : KeySpan) (at : �
     misplaced_even p o n end i [] t l w e a = absurd (there (suc n) [] l)
     misplaced_even p o n end i (k ∷ ks) t l w e a =
         let q = there (suc n) (k ∷ ks) l in
-        let b : false ≡ before k.0 (part bs at end) = rw q.0 (subst (λ x. AfterLast bs x at end false) is a) in
-        let (j, f) = odd_there (ItemAt d) (item_free d) k.0 (part bs at end) (drop end bs) k.1 n q.1 w q.2 q.3 b in
+        let b : false ≡ before k.0 (slice_range bs at end) = rw q.0 (subst (λ x. AfterLast bs x at end false) is a) in
+        let (j, f) = odd_there (ItemAt d) (item_free d) k.0 (slice_range bs at end) (drop end bs) k.1 n q.1 w q.2 q.3 b in
         let g : odd_at k.1 k.0 (drop at bs) ≡ j ∷ [] = ap (odd_at k.1 k.0) (part_rest bs at end e.0) ∙ f in
         absurd (let z : ◌≡◌ {A = ℕ} 0 1 = ap length (sym o ∙ sym (odd_is bs d (suc n) s m measured k ks q (drop at bs)) ∙ g) in omega arith)
 
 -- ENTRIES ONE AFTER ANOTHER
 
 -- what is known of a whole key
-pub key_known : (bs : List ℕ) (at d r end : ℕ) (i : ℕ × ℕ) → r < 18446744073709551616 → all_bytes bs ≡ true → length bs < 1152921504606846976 → Ended bs at end i (walk d r (drop at bs)) → Keyed (ItemAt d) r (part bs at end) × Reach (ItemAt d) (part bs at end) i.0
+pub key_known : (bs : List ℕ) (at d r end : ℕ) (i : ℕ × ℕ) → r < 18446744073709551616 → all_bytes bs ≡ true → length bs < 1152921504606846976 → Ended bs at end i (walk d r (drop at bs)) → Keyed (ItemAt d) r (slice_range bs at end) × Reach (ItemAt d) (slice_range bs at end) i.0
 key_known bs at d r end i l a b (x, y, e) =
     let k : length (drop at bs) < 1152921504606846976 = rw (length-drop at bs) (omega arith) in
     let h = subst (λ t. Holds (Keyed (ItemAt d) r) (Says (ItemAt d)) (drop at bs) t) e (walk_is_right d r (drop at bs) l (bytes_drop at bs a, k)) in
     (h.0, h.1.0)
 
 -- one that comes after the last stays as it is told
-key_on : (bs : List ℕ) (at d r n end : ℕ) (i : ℕ × ℕ) (last : Option KeySpan) (ls : List (List ℕ × ℕ)) → LastAt bs d n last ls → AfterLast bs last at end true → ItemAt d (part bs at end) → Ended bs at end i (walk d r (drop at bs)) → next_key ls (drop at bs) (walk d r (drop at bs)) ≡ done i (part bs at end) (drop end bs)
+key_on : (bs : List ℕ) (at d r n end : ℕ) (i : ℕ × ℕ) (last : Option KeySpan) (ls : List (List ℕ × ℕ)) → LastAt bs d n last ls → AfterLast bs last at end true → ItemAt d (slice_range bs at end) → Ended bs at end i (walk d r (drop at bs)) → next_key ls (drop at bs) (walk d r (drop at bs)) ≡ done i (slice_range bs at end) (drop end bs)
 key_on bs at d r n end i last [] l g w (x, y, e) = e
 key_on bs at d r n end i None (k ∷ ks) l g w (x, y, e) = absurd l
 key_on bs at d r n end i (Some s) (k ∷ ks) (p, it, reach, room, v) g w (x, y, e) =
-    let (j, h, a) = reach.0 (part bs at end) w (rw p (sym g)) in
-    let o : odd_at k.1 k.0 (drop at bs) ≡ [] = ap (odd_at k.1 k.0) (part_rest bs at end x) ∙ apart_larger k.1 j k.0 (part bs at end) (drop end bs) h a in
+    let (j, h, a) = reach.0 (slice_range bs at end) w (rw p (sym g)) in
+    let o : odd_at k.1 k.0 (drop at bs) ≡ [] = ap (odd_at k.1 k.0) (part_rest bs at end x) ∙ apart_larger k.1 j k.0 (slice_range bs at end) (drop end bs) h a in
     rw (o, e)
 
 -- what is left gives the whole, whatever last key is kept
@@ -152,14 +153,14 @@ module _ (bs : List ℕ) (d : ℕ) (own : List ℕ) (at n start count : ℕ) (la
   pub key_refused : (stop r : Stop) → Stops at stop (walk d (n - 1) (drop at bs)) → Refused bs d last at stop r → Stops start r (walk_pairs (walk d) count [] (drop start bs))
   key_refused stop r g f = key_stop r (f n ls (walk d (n - 1) (drop at bs)) (on last kept).1.1 g)
 
-  module _ (end : ℕ) (i : ℕ × ℕ) (key : Ended bs at end i (walk d (n - 1) (drop at bs))) (known : Keyed (ItemAt d) (n - 1) (part bs at end) × Reach (ItemAt d) (part bs at end) i.0) where
+  module _ (end : ℕ) (i : ℕ × ℕ) (key : Ended bs at end i (walk d (n - 1) (drop at bs))) (known : Keyed (ItemAt d) (n - 1) (slice_range bs at end) × Reach (ItemAt d) (slice_range bs at end) i.0) where
     pub key_misplaced : (p : ℕ) → AfterLast bs last at end false → Misplaced bs d last at p → Stops start (Wrong p) (walk_pairs (walk d) count [] (drop start bs))
     key_misplaced p a f =
         let e : n ≡ suc (n - 1) = omega arith in
         key_stop (Wrong p) (f (n - 1) end i ls (walk d (n - 1) (drop at bs)) (subst (λ m. LastAt bs d m last ls) e (on last kept).1.1) known.0.0 key a)
 
     module _ (after : AfterLast bs last at end true) where
-      entry_on : (r : Result ℕ Stop) → Ends bs end r (on_told (walk d 0 (drop end bs)) (λ j v rest. carry (λ m. joined j.0 (length v) m) v (walk_pairs (walk d) (n - 1) ((part bs at end, i.0) ∷ []) rest))) → Ends bs start r (walk_pairs (walk d) count [] (drop start bs))
+      entry_on : (r : Result ℕ Stop) → Ends bs end r (on_told (walk d 0 (drop end bs)) (λ j v rest. carry (λ m. joined j.0 (length v) m) v (walk_pairs (walk d) (n - 1) ((slice_range bs at end, i.0) ∷ []) rest))) → Ends bs start r (walk_pairs (walk d) count [] (drop start bs))
       entry_on r g =
           (on last kept).1.2 r (rw (pairs_step (walk d) n ls (drop at bs) some)
           (then_ends bs at end i (next_key ls (drop at bs) (walk d (n - 1) (drop at bs)))
@@ -174,13 +175,13 @@ module _ (bs : List ℕ) (d : ℕ) (own : List ℕ) (at n start count : ℕ) (la
       entry_step new next e f pos (j, v) (Some s) (a, b, c) =
           let p : s.start ≡ at = a ∙ e in
           let q : s.end ≡ end = b ∙ f in
-          let x : part bs at end ≡ part bs s.start s.end = ap (λ y. part bs y end) (sym p) ∙ ap (λ y. part bs s.start y) (sym q) in
+          let x : slice_range bs at end ≡ slice_range bs s.start s.end = ap (λ y. slice_range bs y end) (sym p) ∙ ap (λ y. slice_range bs s.start y) (sym q) in
           let w = subst (λ y. Ended bs y s.end i (walk d (n - 1) (drop y bs))) (sym p) (subst (λ y. Ended bs at y i (walk d (n - 1) (drop at bs))) (sym q) key) in (
             (let k = key.0 in let l = key.1 in (omega arith, omega arith)),
             (
-              (part bs at end, i.0) ∷ [],
+              (slice_range bs at end, i.0) ∷ [],
               (x, known.0.0, known.1, known.0.1, (n - 1, i.1, w)),
-              λ r g. entry_on r (then_ends bs end next j (walk d 0 (drop end bs)) (λ j v rest. walk_pairs (walk d) (n - 1) ((part bs at end, i.0) ∷ []) rest) (λ j v m. joined j.0 (length v) m) v r g),
+              λ r g. entry_on r (then_ends bs end next j (walk d 0 (drop end bs)) (λ j v rest. walk_pairs (walk d) (n - 1) ((slice_range bs at end, i.0) ∷ []) rest) (λ j v m. joined j.0 (length v) m) v r g),
             ),
           )
       entry_step new next e f pos v None k = absurd (omega arith)

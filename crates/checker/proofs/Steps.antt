@@ -1,13 +1,19 @@
 -- One word after another, at places.
-use Rattle.std.proofs.Common.{◌≡◌, ℕ, ◌-◌, ◌<◌, ◌≤◌, List, length, take, drop, Ok, Err, Result, sym, ap, arith}
+use Rattle.std.proofs.Common.{◌≡◌, ℕ, ◌-◌, ◌<◌, ◌≤◌, true, List, length, get_or, take, drop, Ok, Err, Result, Fits, w8, sym, ap, arith}
 use Rattle.std.proofs.lemmas.List.{length-drop, drop-drop}
 use Rattle.std.proofs.lemmas.Bool.{le-leb, lt-leb}
+use Rattle.cbor.specs.Encoding.{all_bytes}
+use Rattle.cbor.proofs.Numbers.{bytes_typed}
 use Rattle.cbor.proofs.Places.{part_more, part_length}
 use Rattle.prefixes.specs.Words.{last_up}
 use Rattle.prefixes.specs.Walks.{Told, done, wrong, on_told, carry, retold, walk_bytes}
 use Rattle.checker.specs.declared.Stop.{Stop}
 use Rattle.checker.specs.declared.Stop.TheVariants.{Cut, Wrong}
-use Rattle.checker.specs.Ends.{Ended, Stops, Ends, BytesTold}
+use Rattle.reach.specs.Measured.{Ended}
+use Rattle.checker.specs.Ends.{Stops, Ends, BytesTold}
+
+pub typed : (bs : List ℕ) → ((i : ℕ) → Fits w8 (get_or bs i 0)) → all_bytes bs ≡ true
+typed bs h = bytes_typed bs (λ i. omega (arith, h i))
 
 abbrev wrong_of : (I : Type 0) → ℕ → Told I
 wrong_of I p = wrong p

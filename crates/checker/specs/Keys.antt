@@ -4,13 +4,11 @@ use Rattle.cbor.specs.Order.{before}
 use Rattle.prefixes.specs.Words.{Reach, Room}
 use Rattle.prefixes.specs.Shapes.{ItemAt}
 use Rattle.prefixes.specs.Walks.{Told, odd_at, next_key, walk}
+use Rattle.reach.specs.Measured.{Ended}
 use Rattle.checker.specs.declared.Stop.{Stop}
 use Rattle.checker.specs.declared.Stop.TheVariants.{Wrong}
 use Rattle.checker.specs.declared.keys.KeySpan.{KeySpan}
-use Rattle.checker.specs.Ends.{Ended, Stops}
-
-abbrev pub part : List ℕ → ℕ → ℕ → List ℕ
-part bs at end = slice_range bs at end
+use Rattle.checker.specs.Ends.{Stops}
 
 -- as a map keeps it in two numbers
 abbrev pub Kept : List ℕ → Option KeySpan → Type 0
@@ -23,7 +21,7 @@ KeyWithin bs None = Unit {0}
 
 -- whether the key from one place to another comes after it
 abbrev pub AfterLast : List ℕ → Option KeySpan → ℕ → ℕ → Bool → Type 0
-AfterLast bs (Some s) at end r = r ≡ before (part bs s.start s.end) (part bs at end)
+AfterLast bs (Some s) at end r = r ≡ before (slice_range bs s.start s.end) (slice_range bs at end)
 AfterLast bs None at end r = r ≡ true
 
 -- where a key is at odds with as much of the last one as it reaches
@@ -41,7 +39,7 @@ LastAt bs d n None [] = Unit {0}
 LastAt bs d n None (k ∷ ks) = ⊥
 LastAt bs d n (Some s) [] = ⊥
 LastAt bs d n (Some s) (k ∷ ks) =
-    (k.0 ≡ part bs s.start s.end) × ItemAt d k.0 × Reach (ItemAt d) k.0 k.1 × Room (ItemAt d) k.0 n
+    (k.0 ≡ slice_range bs s.start s.end) × ItemAt d k.0 × Reach (ItemAt d) k.0 k.1 × Room (ItemAt d) k.0 n
     × ((r : ℕ) × (a : ℕ) × Ended bs s.start s.end (k.1, a) (walk d r (drop s.start bs)))
 
 -- a key that stops is refused where it stops, or where it is at odds with the last one before
@@ -51,5 +49,5 @@ Refused bs d last at stop r = (n : ℕ) (ls : List (List ℕ × ℕ)) (t : Told 
 -- a whole key that does not come after the last one is refused where it is at odds with it
 abbrev pub Misplaced : List ℕ → ℕ → Option KeySpan → ℕ → ℕ → Type 0
 Misplaced bs d last at p =
-    (n end : ℕ) (i : ℕ × ℕ) (ls : List (List ℕ × ℕ)) (t : Told (ℕ × ℕ)) → LastAt bs d (suc n) last ls → ItemAt d (part bs at end) → Ended bs at end i t → AfterLast bs last at end false
+    (n end : ℕ) (i : ℕ × ℕ) (ls : List (List ℕ × ℕ)) (t : Told (ℕ × ℕ)) → LastAt bs d (suc n) last ls → ItemAt d (slice_range bs at end) → Ended bs at end i t → AfterLast bs last at end false
     → Stops at (Wrong p) (next_key ls (drop at bs) t)

@@ -12,6 +12,7 @@ use std::fmt;
 use walking::walk;
 
 mod heads;
+mod input;
 mod keys;
 mod walking;
 

@@ -1,15 +1,15 @@
 use Rattle.std.proofs.Common.{◌≡◌, arith}
-use Rattle.cbor.proofs.Numbers.{bytes_typed}
+use Rattle.checker.proofs.Steps.{typed}
 use Rattle.checker.proofs.Verdicts.{is_item, is_past, is_stop}
 use Rattle.checker.proofs.check.Goals as goal
 
 pub returns-in-Ok : goal.returns-in-Ok
-returns-in-Ok c = (omega arith, omega arith, is_past c.args.bytes.now (bytes_typed c.args.bytes.now (λ i. omega (arith, c.type_inv.bytes i))) (omega arith) c.in-Ok.end c.in-Ok.ensures (omega arith))
+returns-in-Ok c = (omega arith, omega arith, is_past c.args.bytes.now (typed c.args.bytes.now c.type_inv.bytes) (omega arith) c.in-Ok.end c.in-Ok.ensures (omega arith))
 
 pub returns-in-Ok-2 : goal.returns-in-Ok-2
 returns-in-Ok-2 c =
     let e : c.in-Ok.end ≡ c.in-Ok-2.field-0 = (let p = c.in-Ok.is in let q = c.in-Ok-2.is in cc) in
-    (omega arith, omega arith, is_item c.args.bytes.now (bytes_typed c.args.bytes.now (λ i. omega (arith, c.type_inv.bytes i))) (omega arith) c.in-Ok-2.field-0 c.in-Ok-2.ensures (omega arith))
+    (omega arith, omega arith, is_item c.args.bytes.now (typed c.args.bytes.now c.type_inv.bytes) (omega arith) c.in-Ok-2.field-0 c.in-Ok-2.ensures (omega arith))
 
 pub returns-in-Err : goal.returns-in-Err
-returns-in-Err c = (omega arith, omega arith, rw c.into.ensures (is_stop c.args.bytes.now (bytes_typed c.args.bytes.now (λ i. omega (arith, c.type_inv.bytes i))) (omega arith) c.in-Err.stop c.in-Err.ensures))
+returns-in-Err c = (omega arith, omega arith, rw c.into.ensures (is_stop c.args.bytes.now (typed c.args.bytes.now c.type_inv.bytes) (omega arith) c.in-Err.stop c.in-Err.ensures))

@@ -1,10 +1,9 @@
 use Rattle.std.proofs.Common.{rules, ◌≡◌, ◌-◌, ◌<◌, length, get_or, take, drop, set, Ok, Err, ◌∙◌, arith, length-set, get_or-set_other, get_or-set_same}
 use Rattle.std.proofs.lemmas.Result.{err_from_is_err_and}
 use Rattle.cbor.specs.declared.Major.TheVariants.{Array, Map, Tag}
-use Rattle.cbor.proofs.Numbers.{bytes_typed}
 use Rattle.cbor.proofs.Places.{part_length}
 use Rattle.prefixes.specs.Walks.{walk}
-use Rattle.checker.proofs.Steps.{bytes_ends}
+use Rattle.checker.proofs.Steps.{typed, bytes_ends}
 use Rattle.checker.proofs.Walks.{item_stop, item_bytes, item_text, item_array, item_map, item_tag, item_plain, plain_major, deep_of, many_stop, many_step, many_none}
 use Rattle.checker.proofs.Entries.{key_known, entries_start, within, key_refused, key_misplaced, value_stop, entry_step, entries_none, kept_one, item_not_empty}
 use Rattle.checker.proofs.walking.+walking.Goals as goal
@@ -57,20 +56,20 @@ walk_entries-comes_after-requires t c =
 pub walk_entries-returns-then-not-comes_after : goal.walk_entries-returns-then-not-comes_after
 walk_entries-returns-then-not-comes_after t c =
     let (i, e) = c.in-Ok.ensures in
-    let known = key_known c.args.bytes.now c.entries.next c.args.depth (c.entries.left - 1) c.in-Ok.end i (omega arith) (bytes_typed c.args.bytes.now (λ j. omega (arith, c.type_inv.bytes j))) c.requires.bytes_len_bound e in
+    let known = key_known c.args.bytes.now c.entries.next c.args.depth (c.entries.left - 1) c.in-Ok.end i (omega arith) (typed c.args.bytes.now c.type_inv.bytes) c.requires.bytes_len_bound e in
     key_misplaced c.args.bytes.now c.args.depth c.entries.own c.entries.next c.entries.left c.args.at c.args.count c.last_key-last.result c.last_key-last.ensures c.entries.invariant.4 (omega arith) c.in-Ok.end i e known _ c.if-not-comes_after.ensures (search rules)
 
 pub walk_entries-returns-in_err-next : goal.walk_entries-returns-in_err-next
 walk_entries-returns-in_err-next t c =
     let (i, e) = c.in-Ok.ensures in
-    let known = key_known c.args.bytes.now c.entries.next c.args.depth (c.entries.left - 1) c.in-Ok.end i (omega arith) (bytes_typed c.args.bytes.now (λ j. omega (arith, c.type_inv.bytes j))) c.requires.bytes_len_bound e in
+    let known = key_known c.args.bytes.now c.entries.next c.args.depth (c.entries.left - 1) c.in-Ok.end i (omega arith) (typed c.args.bytes.now c.type_inv.bytes) c.requires.bytes_len_bound e in
     let p = err_from_is_err_and c.from_residual.result c.from_residual.ensures.1 in
     rw (p.1, p.2) (value_stop c.args.bytes.now c.args.depth c.entries.own c.entries.next c.entries.left c.args.at c.args.count c.last_key-last.result c.last_key-last.ensures c.entries.invariant.4 (omega arith) c.in-Ok.end i e known c.if-not-comes_after.ensures c.in_err-next.field-0.0 c.in_err-next.ensures)
 
 pub walk_entries-entries-preserved : goal.walk_entries-entries-preserved
 walk_entries-entries-preserved t c =
     let (i, e) = c.in-Ok.ensures in
-    let known = key_known c.args.bytes.now c.entries.next c.args.depth (c.entries.left - 1) c.in-Ok.end i (omega arith) (bytes_typed c.args.bytes.now (λ j. omega (arith, c.type_inv.bytes j))) c.requires.bytes_len_bound e in
+    let known = key_known c.args.bytes.now c.entries.next c.args.depth (c.entries.left - 1) c.in-Ok.end i (omega arith) (typed c.args.bytes.now c.type_inv.bytes) c.requires.bytes_len_bound e in
     let first = set c.entries.own 0 c.entries.next in
     let new = set first 1 c.in-Ok.end in
     let two : length first ≡ 2 = simp length-set (omega arith) in
