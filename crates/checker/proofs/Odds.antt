@@ -1,7 +1,8 @@
 -- Where a key is at odds with the last one, by comparing them.
-use Rattle.std.proofs.Common.{◌≡◌, ℕ, zero, suc, ◌+◌, ◌-◌, ◌<◌, ◌≤◌, false, List, [], ◌∷◌, ◌++◌, length, take, drop, Some, None, Option, sym, refl, ap, ◌∙◌, inl, inr, arith, length-append}
+use Rattle.std.proofs.Common.{◌≡◌, ℕ, zero, suc, ◌+◌, ◌-◌, ◌<◌, ◌≤◌, false, ltb, List, [], ◌∷◌, ◌++◌, length, take, drop, Some, None, Option, sym, refl, ap, ◌∙◌, inl, inr, arith, length-append}
 use Rattle.std.proofs.lemmas.Bool.{lt-ltb, le-ltb, cases_lt, both_ways}
 use Rattle.std.proofs.lemmas.List.{length-take-le, length-drop, take_all, take-append-le}
+use Rattle.std.specs.Bool.{then_some}
 use Rattle.std.specs.Option.{SomeIff}
 use Rattle.cbor.specs.Order.{before}
 use Rattle.cbor.specs.Prefix.{PrefixFree}
@@ -11,7 +12,7 @@ use Rattle.prefixes.proofs.Order.{apart_before, apart_place}
 use Rattle.prefixes.proofs.Words.{free_meets}
 use Rattle.prefixes.specs.Walks.{odd_at, odd_next}
 use Rattle.prefixes.proofs.Steps.{odd_part}
-use Rattle.checker.specs.Keys.{OddOf, OddTold}
+use Rattle.checker.specs.Keys.{OddOf}
 
 odd_same : (m x b : ℕ) (l q : List ℕ) → x ≡ b → odd_at (suc m) (x ∷ l) (b ∷ q) ≡ odd_next m (odd_at m l q)
 unfolding odd_at
@@ -82,15 +83,16 @@ some_after (x ∷ xs) (y ∷ ys) f = omega arith
 decided_within : (i : ℕ) (xs ys : List ℕ) → DecidedAt i xs ys → i < length ys
 decided_within i xs ys (e, f) = (let z = some_after (drop i xs) (drop i ys) f in let y = length-drop i ys in omega arith)
 
-pub odd_by_after : (i : ℕ) (l q : List ℕ) → i < length q → DecidedAt i q l → OddOf l q (Some i)
-odd_by_after i l q h d = let k = decided_within i q l d in (odd_smaller i (length l) l q k h d, k)
-
-pub odd_by_end : (i : ℕ) (l q : List ℕ) → length q ≤ i → DecidedAt i q l → OddOf l q None
-odd_by_end i l q h (e, f) =
-    let k = decided_within i q l (e, f) in
-    let a : q ≡ take i l = sym (take_all i q h) ∙ e in
-    let b : length q ≡ i = ap length a ∙ length-take-le i l (omega arith) in
-    odd_short (length l) l q (omega arith) (ap (λ n. take n l) b ∙ sym a)
+pub odd_by_after : (i : ℕ) (l q : List ℕ) → DecidedAt i q l → OddOf l q (then_some (ltb i (length q)) i)
+odd_by_after i l q d =
+    let k = decided_within i q l d in
+    elim (cases_lt i (length q)) [ inl h ↦ rw (lt-ltb i (length q) h) (odd_smaller i (length l) l q k h d, k) | inr h ↦ rw (le-ltb i (length q) h) (at_end h k d) ]
+  where
+    at_end : length q ≤ i → i < length l → DecidedAt i q l → odd_at (length l) l q ≡ []
+    at_end h k (e, f) =
+        let a : q ≡ take i l = sym (take_all i q h) ∙ e in
+        let b : length q ≡ i = ap length a ∙ length-take-le i l (omega arith) in
+        odd_short (length l) l q (omega arith) (ap (λ n. take n l) b ∙ sym a)
 
 -- they are the same as far as that
 abbrev pub Ties : List ℕ → List ℕ → Type 0
@@ -106,6 +108,12 @@ ties_before i l q h (e, f) =
 pub ties_same : (l q : List ℕ) → l ≡ q → Ties l q
 ties_same l q e = (omega (arith, ap length e), ap (λ n. take n q) (ap length e) ∙ take_all (length q) q (omega arith) ∙ sym e)
 
+pub odd_past : (m : ℕ) (l : List ℕ) → odd_at m l [] ≡ []
+unfolding odd_at
+odd_past zero l = refl
+odd_past (suc m) [] = refl
+odd_past (suc m) (x ∷ l) = refl
+
 odd_none : (m : ℕ) (l q : List ℕ) → m ≡ 0 → odd_at m l q ≡ []
 unfolding odd_at
 odd_none m l q e = rw e
@@ -116,6 +124,11 @@ odd_by_tie l q (Some j) (h, e) (k, f) =
 odd_by_tie l q None t none = odd_none (length l) l q (elim (cases_lt 0 (length l)) [ inl k ↦ absurd (none k) | inr k ↦ (let z : length l ≡ 0 = omega arith in z) ])
 
 -- AT PLACES
+
+-- where the bytes from a place on are at odds with those of a key from another one on, as far as it reaches
+abbrev pub OddTold : List ℕ → ℕ → ℕ → ℕ → Option ℕ → Type 0
+OddTold bs last reach at (Some j) = (odd_at reach (drop last bs) (drop at bs) ≡ j ∷ []) × (j < reach)
+OddTold bs last reach at None = odd_at reach (drop last bs) (drop at bs) ≡ []
 
 module _ (bs : List ℕ) (last reach at : ℕ) (h : last + reach ≤ length bs) (k : at ≤ length bs) where
   reached_length : length (take (last + reach - last) (drop last bs)) ≡ reach

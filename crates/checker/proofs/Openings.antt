@@ -5,7 +5,7 @@ use Rattle.std.proofs.lemmas.Bool.{lt-ltb, le-ltb, ltb-true, leb-true, and_parts
 use Rattle.cbor.specs.declared.Major.{Major}
 use Rattle.cbor.specs.declared.Major.TheVariants.{Unsigned, Negative, Bytes, Text, Array, Map, Tag, Simple}
 use Rattle.cbor.specs.Encoding.{all_bytes, major_number, to_bytes}
-use Rattle.cbor.specs.Prefix.{Begins, Any, PrefixFree, StopsAt, StandsAt}
+use Rattle.cbor.specs.Prefix.{Begins, Any, PrefixFree, StopsAt}
 use Rattle.cbor.specs.declared.reading.Head.{Head}
 use Rattle.cbor.specs.declared.reading.Stop.{Stop}
 use Rattle.cbor.specs.Reading.{HeadOf, HeadAt}
@@ -15,7 +15,7 @@ use Rattle.cbor.proofs.Numbers.{bytes_drop}
 use Rattle.cbor.proofs.Places.{part_rest, at_first}
 use Rattle.cbor.proofs.Words.{free_two}
 use Rattle.prefixes.specs.Words.{Unread}
-use Rattle.prefixes.specs.Shapes.{HeadFits, HeadFor, major_of}
+use Rattle.prefixes.specs.Shapes.{HeadFor, major_of}
 use Rattle.prefixes.specs.Walks.{Told, done, cut, wrong, Holds, first_for, walk_one, walk_head}
 use Rattle.prefixes.proofs.Free.{fits_below, head_word_free, major_of_number}
 use Rattle.prefixes.proofs.Fronts.{head_holds}

@@ -73,22 +73,13 @@ many_more w (suc n) q h = let z : suc n - 1 ≡ n = omega arith in rw z
 pub many_stop : (w : List ℕ → Told (ℕ × ℕ)) (bs : List ℕ) (at n : ℕ) (s : Stop) → 0 < n → Stops at s (w (drop at bs)) → Stops at s (walk_many w n (drop at bs))
 many_stop w bs at n s h g = rw (many_more w n (drop at bs) h) (stop_ends at (w (drop at bs)) _ s g)
 
-pub many_step : (w : List ℕ → Told (ℕ × ℕ)) (bs : List ℕ) (at n end : ℕ) → 0 < n → Ends bs at (Ok end) (w (drop at bs)) → (r : Result ℕ Stop) → Ends bs end r (walk_many w (n - 1) (drop end bs)) → Ends bs at r (walk_many w n (drop at bs))
-many_step w bs at n end h (i, e) r g = rw (many_more w n (drop at bs) h) (then_ends bs at end i (w (drop at bs)) (λ i u rest. walk_many w (n - 1) rest) (λ i u m. joined i.0 (length u) m) e r g)
+pub many_step : (w : List ℕ → Told (ℕ × ℕ)) (bs : List ℕ) (at n m end : ℕ) → n ≡ suc m → Ends bs at (Ok end) (w (drop at bs)) → (r : Result ℕ Stop) → Ends bs end r (walk_many w m (drop end bs)) → Ends bs at r (walk_many w n (drop at bs))
+unfolding walk_many
+many_step w bs at n m end h (i, e) r g = rw h (then_ends bs at end i (w (drop at bs)) (λ i u rest. walk_many w m rest) (λ i u m. joined i.0 (length u) m) e r g)
 
 pub many_none : (w : List ℕ → Told (ℕ × ℕ)) (bs : List ℕ) (at n : ℕ) → n ≡ 0 → at ≤ length bs → Ends bs at (Ok at) (walk_many w n (drop at bs))
 unfolding walk_many
 many_none w bs at n e h = let z : at - at ≡ 0 = omega arith in (0, (omega arith, h, rw (e, z)))
-
-pub plain_major : (m : Major) → (m ≡ Bytes → ⊥) → (m ≡ Text → ⊥) → (m ≡ Array → ⊥) → (m ≡ Map → ⊥) → (m ≡ Tag → ⊥) → (m ≡ Unsigned) ⊎ ((m ≡ Negative) ⊎ (m ≡ Simple))
-plain_major Unsigned a b c d e = inl refl
-plain_major Negative a b c d e = inr (inl refl)
-plain_major Bytes a b c d e = absurd (a refl)
-plain_major Text a b c d e = absurd (b refl)
-plain_major Array a b c d e = absurd (c refl)
-plain_major Map a b c d e = absurd (d refl)
-plain_major Tag a b c d e = absurd (e refl)
-plain_major Simple a b c d e = inr (inr refl)
 
 -- what a head of such a major type says of the depth
 pub deep_of : (k m : Major) (d : ℕ) → m ≡ k → 4 ≤ major_number k → major_number k < 7 → (4 ≤ major_number m → major_number m < 7 → 0 < d) → 0 < d

@@ -1,5 +1,5 @@
 -- What code tells of lent bytes from a place on, held to what the walk tells of the bytes that are left there.
-use Rattle.std.specs.Prelude.{◌≡◌, ℕ, ◌+◌, ◌-◌, ◌<◌, ◌≤◌, cond, List, length, take, drop, Ok, Err, Result, nat_lt}
+use Rattle.std.specs.Prelude.{◌≡◌, ℕ, ◌-◌, ◌≤◌, cond, List, Ok, Err, Result, nat_lt}
 use Rattle.cbor.specs.declared.Major.{Major}
 use Rattle.items.specs.declared.skipping.ItemHead.{ItemHead}
 use Rattle.prefixes.specs.Walks.{Told, cut, wrong}
@@ -30,9 +30,3 @@ Ends bs at (Err s) t = Stops at s t
 abbrev pub Headed : List ℕ → ℕ → Result ItemHead Stop → Told (Major × ℕ) → Type 0
 Headed bs at (Ok h) t = Ended bs at h.next (h.major, h.argument) t
 Headed bs at (Err s) t = Stops at s t
-
--- so many bytes, or fewer
-abbrev pub BytesTold : List ℕ → ℕ → ℕ → Result ℕ Stop → Type 0
-BytesTold bs at n (Ok end) = (end ≡ at + n) × (end ≤ length bs)
-BytesTold bs at n (Err Cut) = length bs < at + n
-BytesTold bs at n (Err (Wrong p)) = ⊥

@@ -7,7 +7,7 @@ ghost use Rattle.checker.specs.Ends.{stop_within, Headed};
 use crate::Stop;
 use cbor::Major;
 use cbor::reading::{self, read_head};
-use items::skipping::{ItemHead, major_of};
+use items::skipping::ItemHead;
 
 // Whether an item may begin so.
 fn may_begin(first: u8, depth: u8, demand: u64) -> bool
@@ -70,7 +70,7 @@ pub(crate) fn head_of(bytes: &[u8], at: usize, depth: u8, demand: u64) -> Result
     if first == 0xf8 {
         return long_simple(bytes, at, demand);
     }
-    let major = major_of(first >> 5);
+    let major = Major::of_head(first);
     let head = read_head(bytes, at, major).map_err(|stop| stop_within(bytes, stop))?;
     Ok(ItemHead {
         major,

@@ -6,6 +6,7 @@ ghost use Rattle.std.specs.Prelude.{◌≡◌, Some};
 ghost use Rattle.checker.specs.Checked.{Checked, line};
 ghost use Rattle.checker.specs.Ends.{verdict_of};
 
+use input::Input;
 use items::skipping::DEPTH;
 use std::error::Error;
 use std::fmt;
@@ -22,8 +23,7 @@ pub const FRAME: usize = 2;
 // How many numbers are lent for all the maps that may be in one another.
 pub const LENT: usize = 64;
 
-// Bytes from 2^60 on are not looked at.
-pub const TOO_MANY_BYTES: usize = 1152921504606846976;
+pub use cbor::TOO_MANY_BYTES;
 
 #[derive(Clone, Copy, Debug, PartialEq, Eq)]
 pub enum Verdict {
@@ -90,7 +90,8 @@ pub fn check(bytes: &[u8], lent: &mut [u64]) -> Result<Verdict, NotChecked>
     if bytes.len() >= TOO_MANY_BYTES {
         return Err(NotChecked::TooManyBytes);
     }
-    match walk(bytes, 0, DEPTH, 0, lent) {
+    let input = Input { bytes };
+    match walk(input, 0, DEPTH, 0, lent) {
         Ok(end) if end < bytes.len() => Ok(Verdict::Wrong(end)),
         Ok(_) => Ok(Verdict::Complete),
         Err(stop) => Ok(stop.into()),

@@ -3,6 +3,9 @@ use Rattle.checker.proofs.Steps.{typed}
 use Rattle.checker.proofs.Verdicts.{is_item, is_past, is_stop}
 use Rattle.checker.proofs.check.Goals as goal
 
+pub invariant_of-input-clause-below_256 : goal.invariant_of-input-clause-below_256
+invariant_of-input-clause-below_256 c = typed c.args.bytes.now c.type_inv.bytes
+
 pub returns-in-Ok : goal.returns-in-Ok
 returns-in-Ok c = (omega arith, omega arith, is_past c.args.bytes.now (typed c.args.bytes.now c.type_inv.bytes) (omega arith) c.in-Ok.end c.in-Ok.ensures (omega arith))
 

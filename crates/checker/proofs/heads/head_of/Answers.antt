@@ -22,7 +22,7 @@ returns-in_err-head-clause-told c =
     let p = err_from_is_err_and c.from_residual.result c.from_residual.ensures.1 in
     let told : MatchResult c.read_head.result (λ h. ⊥) (λ e. c.in_err-head.field-0.0 ≡ stop_within (length c.args.bytes.now) e.place) = search rules in
     rw (p.1, p.2)
-    (head_stopped c.args.bytes.now c.args.at c.args.depth c.args.demand (typed c.args.bytes.now c.type_inv.bytes) inside (omega (arith, c.type_inv.bytes c.args.at)) may c.major_of-major.result (omega (arith, c.major_of-major.ensures (omega (arith, c.type_inv.bytes c.args.at)))) (λ z. omega arith) c.read_head.result c.read_head.ensures c.in_err-head.field-0.0 told)
+    (head_stopped c.args.bytes.now c.args.at c.args.depth c.args.demand (typed c.args.bytes.now c.type_inv.bytes) inside (omega (arith, c.type_inv.bytes c.args.at)) may c.of_head-major.result (omega arith) (λ z. omega arith) c.read_head.result c.read_head.ensures c.in_err-head.field-0.0 told)
 
 pub returns-clause-told : goal.returns-clause-told
 returns-clause-told c =
@@ -30,7 +30,7 @@ returns-clause-told c =
     let may = subst (λ b. first_for c.args.depth c.args.demand b ≡ true) (byte 0) (sym c.if-not-may_begin.ensures) in
     let is = byte 0 in
     let told : c.read_head.result ≡ Ok c.in_ok-head.head = search rules in
-    head_told c.args.bytes.now c.args.at c.args.depth c.args.demand (typed c.args.bytes.now c.type_inv.bytes) inside (omega (arith, c.type_inv.bytes c.args.at)) may c.major_of-major.result (omega (arith, c.major_of-major.ensures (omega (arith, c.type_inv.bytes c.args.at)))) (λ z. omega arith) c.read_head.result c.read_head.ensures c.in_ok-head.head told
+    head_told c.args.bytes.now c.args.at c.args.depth c.args.demand (typed c.args.bytes.now c.type_inv.bytes) inside (omega (arith, c.type_inv.bytes c.args.at)) may c.of_head-major.result (omega arith) (λ z. omega arith) c.read_head.result c.read_head.ensures c.in_ok-head.head told
 
 pub returns-then-first-clause-deep : goal.returns-then-first-clause-deep
 returns-then-first-clause-deep c = IfOk-weaker c.long_simple.result _ _ (λ h deep. deep c.args.depth) c.long_simple.ensures.deep
