@@ -8,6 +8,7 @@ use Rattle.items.specs.declared.skipping.ItemHead.{ItemHead}
 use Rattle.prefixes.specs.Words.{joined, reach_of_head}
 use Rattle.prefixes.specs.Walks.{Told, done, cut, on_told, carry, walk_head, walk_body, walk_item, walk_bytes, walk_text, walk_many, walk_pairs, walk, after_of}
 use Rattle.checker.specs.declared.Stop.{Stop}
+use Rattle.reach.specs.Measured.{Deep}
 use Rattle.checker.specs.Ends.{Stops, Ends, Headed}
 use Rattle.checker.proofs.Steps.{then_ends, stop_ends, retold_ends}
 
@@ -38,22 +39,25 @@ module _ (bs : List ℕ) (at d r : ℕ) (h : ItemHead) (is : Headed bs at (Ok h)
       (then_ends bs at h.next (h.major, h.argument) (walk_head d r (drop at bs)) (λ i u rest. walk_body (inner d) r i.0 i.1 rest) (λ i u m. (joined (reach_of_head u) (length u) m.0, after_of i.0 i.1 m.1)) is x
       (subst (λ k. Ends bs h.next x (walk_body (inner d) r k h.argument (drop h.next bs))) (sym e) g))
 
+  deep : (m : Major) → h.major ≡ m → Deep d h.major → Deep d m
+  deep m e l = subst (λ m. Deep d m) e l
+
   pub item_bytes : h.major ≡ Bytes → (x : Result ℕ Stop) → Ends bs h.next x (walk_bytes h.argument (drop h.next bs)) → Ends bs at x (walk d r (drop at bs))
   item_bytes e x g = item_on Bytes e x (retold_ends (λ m. (m, 0)) bs h.next (walk_bytes h.argument (drop h.next bs)) x g)
 
   pub item_text : h.major ≡ Text → (x : Result ℕ Stop) → Ends bs h.next x (walk_text h.argument h.argument (drop h.next bs)) → Ends bs at x (walk d r (drop at bs))
   item_text e x g = item_on Text e x (retold_ends (λ m. (m, 0)) bs h.next (walk_text h.argument h.argument (drop h.next bs)) x g)
 
-  pub item_array : h.major ≡ Array → 0 < d → (x : Result ℕ Stop) → Ends bs h.next x (walk_many (walk (d - 1) 0) h.argument (drop h.next bs)) → Ends bs at x (walk d r (drop at bs))
-  item_array e l x g = item_on Array e x (rw (inner_is d l) (retold_ends (λ m. (m, 0)) bs h.next (walk_many (walk (d - 1) 0) h.argument (drop h.next bs)) x g))
+  pub item_array : h.major ≡ Array → Deep d h.major → (x : Result ℕ Stop) → Ends bs h.next x (walk_many (walk (d - 1) 0) h.argument (drop h.next bs)) → Ends bs at x (walk d r (drop at bs))
+  item_array e l x g = item_on Array e x (rw (inner_is d (deep Array e l (omega arith) (omega arith))) (retold_ends (λ m. (m, 0)) bs h.next (walk_many (walk (d - 1) 0) h.argument (drop h.next bs)) x g))
 
-  pub item_map : h.major ≡ Map → 0 < d → (x : Result ℕ Stop) → Ends bs h.next x (walk_pairs (walk (d - 1)) h.argument [] (drop h.next bs)) → Ends bs at x (walk d r (drop at bs))
-  item_map e l x g = item_on Map e x (rw (inner_is d l) (retold_ends (λ m. (m, 0)) bs h.next (walk_pairs (walk (d - 1)) h.argument [] (drop h.next bs)) x g))
+  pub item_map : h.major ≡ Map → Deep d h.major → (x : Result ℕ Stop) → Ends bs h.next x (walk_pairs (walk (d - 1)) h.argument [] (drop h.next bs)) → Ends bs at x (walk d r (drop at bs))
+  item_map e l x g = item_on Map e x (rw (inner_is d (deep Map e l (omega arith) (omega arith))) (retold_ends (λ m. (m, 0)) bs h.next (walk_pairs (walk (d - 1)) h.argument [] (drop h.next bs)) x g))
 
-  pub item_tag : h.major ≡ Tag → 0 < d → (s : ℕ) → s ≡ cond (eqb h.argument 18446744073709551615) (r - 248) 0 → (x : Result ℕ Stop) → Ends bs h.next x (walk (d - 1) s (drop h.next bs)) → Ends bs at x (walk d r (drop at bs))
+  pub item_tag : h.major ≡ Tag → Deep d h.major → (s : ℕ) → s ≡ cond (eqb h.argument 18446744073709551615) (r - 248) 0 → (x : Result ℕ Stop) → Ends bs h.next x (walk (d - 1) s (drop h.next bs)) → Ends bs at x (walk d r (drop at bs))
   item_tag e l s q x g = elim (cases_eq h.argument 18446744073709551615) [
-    | inl k ↦ item_on Tag e x (rw (inner_is d l, eq-eqb h.argument 18446744073709551615 k) (subst (λ s. Ends bs h.next x (walk (d - 1) s (drop h.next bs))) (q ∙ rw (eq-eqb h.argument 18446744073709551615 k)) g))
-    | inr k ↦ item_on Tag e x (rw (inner_is d l, ne_eqb h.argument 18446744073709551615 k) (subst (λ s. Ends bs h.next x (walk (d - 1) s (drop h.next bs))) (q ∙ rw (ne_eqb h.argument 18446744073709551615 k)) g))
+    | inl k ↦ item_on Tag e x (rw (inner_is d (deep Tag e l (omega arith) (omega arith)), eq-eqb h.argument 18446744073709551615 k) (subst (λ s. Ends bs h.next x (walk (d - 1) s (drop h.next bs))) (q ∙ rw (eq-eqb h.argument 18446744073709551615 k)) g))
+    | inr k ↦ item_on Tag e x (rw (inner_is d (deep Tag e l (omega arith) (omega arith)), ne_eqb h.argument 18446744073709551615 k) (subst (λ s. Ends bs h.next x (walk (d - 1) s (drop h.next bs))) (q ∙ rw (ne_eqb h.argument 18446744073709551615 k)) g))
   ]
 
   none_ends : Ends bs h.next (Ok h.next) (plain (drop h.next bs))
@@ -80,7 +84,3 @@ many_step w bs at n m end h (i, e) r g = rw h (then_ends bs at end i (w (drop at
 pub many_none : (w : List ℕ → Told (ℕ × ℕ)) (bs : List ℕ) (at n : ℕ) → n ≡ 0 → at ≤ length bs → Ends bs at (Ok at) (walk_many w n (drop at bs))
 unfolding walk_many
 many_none w bs at n e h = let z : at - at ≡ 0 = omega arith in (0, (omega arith, h, rw (e, z)))
-
--- what a head of such a major type says of the depth
-pub deep_of : (k m : Major) (d : ℕ) → m ≡ k → 4 ≤ major_number k → major_number k < 7 → (4 ≤ major_number m → major_number m < 7 → 0 < d) → 0 < d
-deep_of k m d e a b f = f (subst (λ x. 4 ≤ major_number x) (sym e) a) (subst (λ x. major_number x < 7) (sym e) b)

@@ -14,7 +14,7 @@ pub(crate) struct KeySpan {
     pub(crate) end: usize,
 }
 
-// The last key, as a map keeps it in the numbers that are lent to it; no key ends at 0.
+// The last key, as a map keeps it in its frame: two numbers of lent memory, since a library takes no other. No key ends at 0.
 pub(crate) fn last_key(own: [u64; FRAME]) -> Option<KeySpan>
     ensures { Kept own result }
 {

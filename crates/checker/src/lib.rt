@@ -63,7 +63,7 @@ impl fmt::Display for NotChecked {
 impl Error for NotChecked {}
 
 // Why a walk over an item ends before the item does: all bytes that are there begin one, or none begins with this byte.
-// An Option would say the same, but not which of the two is None.
+// Not an Option of the place: ? hands it on as an error, and as None it would not say that all bytes are right so far.
 #[derive(Clone, Copy, Debug, PartialEq, Eq)]
 enum Stop {
     Cut,
@@ -91,7 +91,8 @@ pub fn check(bytes: &[u8], lent: &mut [u64]) -> Result<Verdict, NotChecked>
         return Err(NotChecked::TooManyBytes);
     }
     let input = Input { bytes };
-    match walk(input, 0, DEPTH, 0, lent) {
+    let (frames, _) = lent.as_chunks_mut::<FRAME>();
+    match walk(input, 0, DEPTH, 0, frames) {
         Ok(end) if end < bytes.len() => Ok(Verdict::Wrong(end)),
         Ok(_) => Ok(Verdict::Complete),
         Err(stop) => Ok(stop.into()),

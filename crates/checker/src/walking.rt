@@ -1,4 +1,7 @@
 // The walk over an item: where it ends, or why it stops before.
+//
+// Places stay plain: public functions take any place and hand back plain ends, so a place with its fact in its type would be made and taken
+// apart at each call. Nor are place, depth and frames one struct: the place moves on, the depth falls, and the frames are handed on by &mut.
 ghost use Rattle.std.specs.Prelude.{◌≡◌, ◌+◌, ◌-◌, ◌*◌, ◌<◌, ◌≤◌, [], length, drop, if◌then◌else◌, nat_eq};
 ghost use Rattle.prefixes.specs.Walks.{walk_text, walk_many, walk_pairs, walk as told};
 ghost use Rattle.checker.specs.Ends.{Ends};
@@ -39,23 +42,23 @@ pub(crate) fn walk(
     at: usize,
     depth: u8,
     demand: u64,
-    lent: &mut [u64],
+    frames: &mut [[u64; FRAME]],
 ) -> Result<usize, Stop>
-    requires { 2 * depth ≤ length lent.old }
+    requires { depth ≤ length frames.old }
     ensures { Ends input.entry.bytes.now at result (told depth demand (drop at input.entry.bytes.now)) }
 {
     let head = head_of(input.bytes, at, depth, demand)?;
     match head.major {
         Major::Bytes => bytes_end(input.bytes, head.next, head.argument).ok_or(Stop::Cut),
         Major::Text => text_end(input.bytes, head.next, head.argument),
-        Major::Array => walk_items(input, head.next, head.argument, depth - 1, lent),
-        Major::Map => walk_entries(input, head.next, head.argument, depth - 1, lent),
+        Major::Array => walk_items(input, head.next, head.argument, depth - 1, frames),
+        Major::Map => walk_entries(input, head.next, head.argument, depth - 1, frames),
         Major::Tag => walk(
             input,
             head.next,
             depth - 1,
             demand_in(head.argument, demand),
-            lent,
+            frames,
         ),
         Major::Unsigned | Major::Negative | Major::Simple => Ok(head.next),
     }
@@ -68,15 +71,15 @@ fn walk_items(
     at: usize,
     count: u64,
     depth: u8,
-    lent: &mut [u64],
+    frames: &mut [[u64; FRAME]],
 ) -> Result<usize, Stop>
     requires at_in_bounds { at ≤ length input.bytes.now }
-    requires depth_in_bounds { 2 * depth ≤ length lent.old }
+    requires depth_in_bounds { depth ≤ length frames.old }
     ensures { Ends input.entry.bytes.now at result (walk_many (told depth 0) count (drop at input.entry.bytes.now)) }
 {
     let mut next = at;
     for _ in 0..count {
-        next = walk(input, next, depth, 0, lent)?;
+        next = walk(input, next, depth, 0, frames)?;
     }
     Ok(next)
 }
@@ -88,13 +91,13 @@ fn walk_entries(
     at: usize,
     count: u64,
     depth: u8,
-    lent: &mut [u64],
+    frames: &mut [[u64; FRAME]],
 ) -> Result<usize, Stop>
     requires at_in_bounds { at ≤ length input.bytes.now }
-    requires depth_in_bounds { 2 * depth + 2 ≤ length lent.old }
+    requires depth_in_bounds { depth < length frames.old }
     ensures { Ends input.entry.bytes.now at result (walk_pairs (told depth) count [] (drop at input.entry.bytes.now)) }
 {
-    let (own, rest) = lent.split_first_chunk_mut::<FRAME>().unwrap();
+    let (own, rest) = frames.split_first_mut().unwrap();
     *own = [0, 0];
     let mut next = at;
     for left in (0..count).rev() {

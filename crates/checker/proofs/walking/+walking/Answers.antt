@@ -1,9 +1,8 @@
 use Rattle.std.proofs.Common.{◌+◌, ◌-◌, Ok, Err, arith}
 use Rattle.std.proofs.lemmas.Result.{err_from_is_err_and}
-use Rattle.cbor.specs.declared.Major.TheVariants.{Array, Map, Tag}
 use Rattle.prefixes.specs.Walks.{walk}
 use Rattle.checker.proofs.Steps.{bytes_ends, ends_within}
-use Rattle.checker.proofs.Walks.{item_stop, item_bytes, item_text, item_array, item_map, item_tag, item_plain, deep_of, many_stop, many_step, many_none}
+use Rattle.checker.proofs.Walks.{item_stop, item_bytes, item_text, item_array, item_map, item_tag, item_plain, many_stop, many_step, many_none}
 use Rattle.checker.proofs.Entries.{key_refused, value_stop, entry_step, entries_none}
 use Rattle.checker.proofs.walking.+walking.Goals as goal
 
@@ -19,13 +18,13 @@ pub walk-returns-in-Text : goal.walk-returns-in-Text
 walk-returns-in-Text t c = item_text c.args.input.bytes.now c.args.at c.args.depth c.args.demand c.in_ok-head.head c.in_ok-head.ensures.told c.in-Text.is c.text_end.result c.text_end.ensures
 
 pub walk-returns-in-Array : goal.walk-returns-in-Array
-walk-returns-in-Array t c = item_array c.args.input.bytes.now c.args.at c.args.depth c.args.demand c.in_ok-head.head c.in_ok-head.ensures.told c.in-Array.is (deep_of Array c.in_ok-head.head.major c.args.depth c.in-Array.is (omega arith) (omega arith) c.in_ok-head.ensures.deep) c.walk_items.result c.walk_items.ensures
+walk-returns-in-Array t c = item_array c.args.input.bytes.now c.args.at c.args.depth c.args.demand c.in_ok-head.head c.in_ok-head.ensures.told c.in-Array.is c.in_ok-head.ensures.deep c.walk_items.result c.walk_items.ensures
 
 pub walk-returns-in-Map : goal.walk-returns-in-Map
-walk-returns-in-Map t c = item_map c.args.input.bytes.now c.args.at c.args.depth c.args.demand c.in_ok-head.head c.in_ok-head.ensures.told c.in-Map.is (deep_of Map c.in_ok-head.head.major c.args.depth c.in-Map.is (omega arith) (omega arith) c.in_ok-head.ensures.deep) c.walk_entries.result c.walk_entries.ensures
+walk-returns-in-Map t c = item_map c.args.input.bytes.now c.args.at c.args.depth c.args.demand c.in_ok-head.head c.in_ok-head.ensures.told c.in-Map.is c.in_ok-head.ensures.deep c.walk_entries.result c.walk_entries.ensures
 
 pub walk-returns-in-Tag : goal.walk-returns-in-Tag
-walk-returns-in-Tag t c = item_tag c.args.input.bytes.now c.args.at c.args.depth c.args.demand c.in_ok-head.head c.in_ok-head.ensures.told c.in-Tag.is (deep_of Tag c.in_ok-head.head.major c.args.depth c.in-Tag.is (omega arith) (omega arith) c.in_ok-head.ensures.deep) c.demand_in.result c.demand_in.ensures c.walk.result c.walk.ensures
+walk-returns-in-Tag t c = item_tag c.args.input.bytes.now c.args.at c.args.depth c.args.demand c.in_ok-head.head c.in_ok-head.ensures.told c.in-Tag.is c.in_ok-head.ensures.deep c.demand_in.result c.demand_in.ensures c.walk.result c.walk.ensures
 
 pub walk-returns-in-Unsigned : goal.walk-returns-in-Unsigned
 walk-returns-in-Unsigned t c = item_plain c.args.input.bytes.now c.args.at c.args.depth c.args.demand c.in_ok-head.head c.in_ok-head.ensures.told c.in-Unsigned.is

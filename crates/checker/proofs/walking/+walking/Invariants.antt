@@ -14,7 +14,7 @@ decreases-walk_items l = 2 * l.depth + 1
 -- what is left gives the whole
 abbrev pub invariant-walk_items-loop : goal.invariant-walk_items-loop
 invariant-walk_items-loop l =
-    (l.next ≤ length l.input.bytes.now) × (2 * l.depth ≤ length l.lent)
+    (l.next ≤ length l.input.bytes.now) × (l.depth ≤ length l.frames)
     × ((r : Result ℕ Stop) → Ends l.input.bytes.now l.next r (walk_many (walk l.depth 0) (l.count - l.counter) (drop l.next l.input.bytes.now)) → Ends l.input.bytes.now l.at r (walk_many (walk l.depth 0) l.count (drop l.at l.input.bytes.now)))
 
 abbrev pub decreases-walk_entries : goal.decreases-walk_entries
@@ -22,4 +22,4 @@ decreases-walk_entries l = 2 * l.depth + 1
 
 abbrev pub invariant-walk_entries-loop-left : goal.invariant-walk_entries-loop-left
 invariant-walk_entries-loop-left l =
-    (l.next ≤ length l.input.bytes.now) × (2 * l.depth ≤ length l.rest) × GoesOn l.input.bytes.now l.depth l.own l.next l.left l.at l.count
+    (l.next ≤ length l.input.bytes.now) × (l.depth ≤ length l.rest) × GoesOn l.input.bytes.now l.depth l.own l.next l.left l.at l.count
