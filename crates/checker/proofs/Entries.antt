@@ -1,8 +1,8 @@
 -- Keys and values one after another, at places.
-use Rattle.std.proofs.Common.{◌≡◌, ℕ, slice_range, suc, ◌+◌, ◌-◌, ◌<◌, ◌≤◌, Bool, true, false, List, [], ◌∷◌, length, get_or, drop, Some, None, Ok, Err, Option, Result, sym, refl, ap, ◌∙◌, subst, inl, inr, arith}
+use Rattle.std.proofs.Common.{◌≡◌, ℕ, slice_range, suc, ◌+◌, ◌-◌, ◌<◌, ◌≤◌, true, false, List, [], ◌∷◌, length, get_or, drop, Some, None, Ok, Err, Option, Result, sym, refl, ap, ◌∙◌, subst, inl, inr, arith}
 use Rattle.std.specs.Option.{unwrap_or}
 use Rattle.std.proofs.lemmas.List.{length-drop, drop_all}
-use Rattle.std.proofs.lemmas.Bool.{cases_lt}
+use Rattle.std.proofs.lemmas.Bool.{false_from_ne_true, cases_lt}
 use Rattle.cbor.specs.Encoding.{all_bytes}
 use Rattle.cbor.specs.Order.{before}
 use Rattle.cbor.proofs.Numbers.{bytes_drop}
@@ -17,14 +17,12 @@ use Rattle.prefixes.specs.Walks.{Told, done, on_told, carry, odd_at, settle, nex
 use Rattle.checker.specs.declared.Stop.{Stop}
 use Rattle.checker.specs.declared.Stop.TheVariants.{Wrong}
 use Rattle.checker.specs.declared.keys.KeySpan.{KeySpan}
-use Rattle.reach.specs.Measured.{Ended}
+use Rattle.reach.specs.Measured.{Measured, Ended}
 use Rattle.checker.specs.Ends.{Stops, Ends}
-use Rattle.checker.specs.Keys.{AfterLast, LastAt}
-use Rattle.checker.proofs.Steps.{then_ends, stop_ends}
-use Rattle.reach.specs.Measured.{Measured}
+use Rattle.checker.proofs.Steps.{rest_is, then_ends, stop_ends}
 use Rattle.reach.proofs.Measures.{as_walked}
 use Rattle.reach.specs.declared.Measurement.{Measurement}
-use Rattle.checker.specs.Keys.{Kept, KeyTold, KeyWithin, OddOf, Misplaced, odds, OddWith}
+use Rattle.checker.specs.Keys.{Kept, KeyWithin, AfterLast, OddOf, LastAt, odds, OddWith, Misplaced, KeyTold}
 use Rattle.prefixes.proofs.Steps.{odd_part, pairs_step}
 use Rattle.cbor.proofs.Items.{encode_not_empty}
 use Rattle.prefixes.proofs.Items.{item_from_word}
@@ -34,14 +32,10 @@ use Rattle.checker.proofs.Odds.{OddTold, odd_past, odd_placed, apart_larger, odd
 
 -- COMPARING WHOLE KEYS
 
-false_from : (b : Bool) → (b ≡ true → ⊥) → false ≡ b
-false_from true h = absurd (h refl)
-false_from false h = refl
-
 not_after : (xs ys : List ℕ) (r : Comparison) → Compared xs ys r → ((i : ℕ) → r ≡ Before i → ⊥) → false ≡ before xs ys
 not_after xs ys (Before i) c h = absurd (h i refl)
-not_after xs ys Same c h = false_from (before xs ys) (λ e. before_irreflexive xs (subst (λ z. before xs z ≡ true) (sym c) e))
-not_after xs ys (After i) c h = false_from (before xs ys) (λ e. before_irreflexive xs (before_transitive xs ys xs e c.1))
+not_after xs ys Same c h = sym (false_from_ne_true (before xs ys) (λ e. before_irreflexive xs (subst (λ z. before xs z ≡ true) (sym c) e)))
+not_after xs ys (After i) c h = sym (false_from_ne_true (before xs ys) (λ e. before_irreflexive xs (before_transitive xs ys xs e c.1)))
 
 pub key_not_after : (bs : List ℕ) (last : Option KeySpan) (s : KeySpan) (at end : ℕ) (r : Comparison) → last ≡ Some s → Compared (slice_range bs s.start s.end) (slice_range bs at end) r → ((i : ℕ) → r ≡ Before i → ⊥) → AfterLast bs last at end false
 key_not_after bs last s at end r e c h = subst (λ l. AfterLast bs l at end false) (sym e) (not_after (slice_range bs s.start s.end) (slice_range bs at end) r c h)
@@ -71,9 +65,9 @@ module _ (bs : List ℕ) (d : ℕ) (last : Option KeySpan) (at : ℕ) where
     pub odd_with_past : length bs ≤ at → OddWith bs d last at None
     odd_with_past h n ls l = odds_are n ls l ∙ ap (odd_at m.reach (drop s.start bs)) (drop_all at bs h) ∙ odd_past m.reach (drop s.start bs)
 
-    module _ (key : List ℕ) (inside : at ≤ length bs) (key_is : key ≡ slice_range bs at (length bs)) where
+    module _ (key : List ℕ) (key_is : key ≡ slice_range bs at (length bs)) where
       told : (r : Option ℕ) → OddOf (slice_range bs s.start (s.start + m.reach)) key r → OddTold bs s.start m.reach at r
-      told r o = odd_placed bs s.start m.reach at (let (h, k) = measured.0 in omega arith) inside r (subst (λ q. OddOf (slice_range bs s.start (s.start + m.reach)) q r) key_is o)
+      told r o = odd_placed bs s.start m.reach at (let (h, k) = measured.0 in omega arith) r (subst (λ q. OddOf (slice_range bs s.start (s.start + m.reach)) q r) (key_is ∙ rest_is bs at) o)
 
       pub odd_with_none : OddOf (slice_range bs s.start (s.start + m.reach)) key None → OddWith bs d last at None
       odd_with_none o n ls l = odds_are n ls l ∙ told None o
@@ -168,42 +162,28 @@ module _ (bs : List ℕ) (d : ℕ) (last : Option KeySpan) (at n start count : �
     step_so next v None k = absurd (let l = item_not_empty d (slice_range bs at end) keyed.0 in let m = part_length bs at end key.0 key.1 in omega arith)
 
   -- what is told of a key
-  module _ (few : length bs < 1152921504606846976) (bytes : all_bytes bs ≡ true) (word : n - 1 < 18446744073709551616) (x : Result ℕ Stop) (told : Ends bs at x (walk d (n - 1) (drop at bs))) where
-    whole_key : (end : ℕ) → x ≡ Ok end → (i : ℕ × ℕ) × Ended bs at end i (walk d (n - 1) (drop at bs)) × Keyed (ItemAt d) (n - 1) (slice_range bs at end) × Reach (ItemAt d) (slice_range bs at end) i.0
-    whole_key end is =
-        let (i, key) = subst (λ x. Ends bs at x (walk d (n - 1) (drop at bs))) is told in
-        let known = key_known bs at d (n - 1) end i word bytes few key in
-        (i, key, known.0, known.1)
+  module _ (few : length bs < 1152921504606846976) (bytes : all_bytes bs ≡ true) (word : n - 1 < 18446744073709551616) where
+    known : (end : ℕ) (i : ℕ × ℕ) → Ended bs at end i (walk d (n - 1) (drop at bs)) → Keyed (ItemAt d) (n - 1) (slice_range bs at end) × Reach (ItemAt d) (slice_range bs at end) i.0
+    known end i key = key_known bs at d (n - 1) end i word bytes few key
 
-    pub key_refused : (r : Stop) → KeyTold bs d last at x (Err r) → Stops start r (walk_pairs (walk d) count [] (drop start bs))
-    key_refused r k = refused x refl k
-      where
-        refused : (y : Result ℕ Stop) → x ≡ y → KeyTold bs d last at y (Err r) → Stops start r (walk_pairs (walk d) count [] (drop start bs))
-        refused (Ok end) is (after, (p, e, misplaced)) =
-            let (i, key, keyed, reach) = whole_key end is in
-            let f : n ≡ suc (n - 1) = omega arith in
-            rw e (key_stop (Wrong p) (misplaced (n - 1) end i on.ls (walk d (n - 1) (drop at bs)) (subst (λ m. LastAt bs d m last on.ls) f on.at_last) keyed.0 key after))
-        refused (Err stop) is f = key_stop r (f n on.ls (walk d (n - 1) (drop at bs)) on.at_last (subst (λ x. Ends bs at x (walk d (n - 1) (drop at bs))) is told))
+    pub key_refused : (x : Result ℕ Stop) → Ends bs at x (walk d (n - 1) (drop at bs)) → (r : Stop) → KeyTold bs d last at x (Err r) → Stops start r (walk_pairs (walk d) count [] (drop start bs))
+    key_refused (Ok end) (i, key) r (after, (p, e, misplaced)) =
+        let f : n ≡ suc (n - 1) = omega arith in
+        rw e (key_stop (Wrong p) (misplaced (n - 1) end i on.ls (walk d (n - 1) (drop at bs)) (subst (λ m. LastAt bs d m last on.ls) f on.at_last) (known end i key).0.0 key after))
+    key_refused (Err stop) g r f = key_stop r (f n on.ls (walk d (n - 1) (drop at bs)) on.at_last g)
 
-    ends_so : (end : ℕ) → KeyTold bs d last at x (Ok end) → (x ≡ Ok end) × AfterLast bs last at end true
-    ends_so end k = so x refl k
-      where
-        so : (y : Result ℕ Stop) → x ≡ y → KeyTold bs d last at y (Ok end) → (x ≡ Ok end) × AfterLast bs last at end true
-        so (Ok e) is (same, after) = (is ∙ ap (λ m. Ok m) (sym same), subst (λ m. AfterLast bs last at m true) (sym same) after)
-        so (Err stop) is f = absurd f
-
-    pub value_stop : (end : ℕ) → KeyTold bs d last at x (Ok end) → (s : Stop) → Stops end s (walk d 0 (drop end bs)) → Stops start s (walk_pairs (walk d) count [] (drop start bs))
-    value_stop end k s g =
-        let (is, after) = ends_so end k in
-        let (i, key, keyed, reach) = whole_key end is in
-        stop_so end i key keyed reach after s g
+    pub value_stop : (x : Result ℕ Stop) → Ends bs at x (walk d (n - 1) (drop at bs)) → (end : ℕ) → KeyTold bs d last at x (Ok end) → (s : Stop) → Stops end s (walk d 0 (drop end bs)) → Stops start s (walk_pairs (walk d) count [] (drop start bs))
+    value_stop (Ok e) (i, key) end (same, after) s g =
+        let (keyed, reach) = known e i key in
+        stop_so e i key keyed reach after s (subst (λ m. Stops m s (walk d 0 (drop m bs))) same g)
+    value_stop (Err stop) g end f s h = absurd f
 
     -- the key is the last one now
-    pub entry_step : (end : ℕ) → KeyTold bs d last at x (Ok end) → (next : ℕ) → Ends bs end (Ok next) (walk d 0 (drop end bs)) → GoesOn bs d (at ∷ end ∷ []) next (n - 1) start count
-    entry_step end k next v =
-        let (is, after) = ends_so end k in
-        let (i, key, keyed, reach) = whole_key end is in
-        step_so end i key keyed reach after next v
+    pub entry_step : (x : Result ℕ Stop) → Ends bs at x (walk d (n - 1) (drop at bs)) → (end : ℕ) → KeyTold bs d last at x (Ok end) → (next : ℕ) → Ends bs end (Ok next) (walk d 0 (drop end bs)) → GoesOn bs d (at ∷ end ∷ []) next (n - 1) start count
+    entry_step (Ok e) (i, key) end (same, after) next v =
+        let (keyed, reach) = known e i key in
+        subst (λ m. GoesOn bs d (at ∷ m ∷ []) next (n - 1) start count) (sym same) (step_so e i key keyed reach after next (subst (λ m. Ends bs m (Ok next) (walk d 0 (drop m bs))) same v))
+    entry_step (Err stop) g end f next v = absurd f
 
 pub entries_none : (bs : List ℕ) (d at n start count : ℕ) (own : List ℕ) → GoesOn bs d own at n start count → n ≡ 0 → at ≤ length bs → Ends bs start (Ok at) (walk_pairs (walk d) count [] (drop start bs))
 unfolding walk_pairs

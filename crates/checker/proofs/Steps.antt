@@ -1,7 +1,7 @@
 -- One word after another, at places.
-use Rattle.std.proofs.Common.{◌≡◌, ℕ, ◌-◌, ◌<◌, ◌≤◌, true, List, length, get_or, take, drop, Some, None, Ok, Err, Option, Result, IfOk, Fits, w8, sym, ap, arith}
+use Rattle.std.proofs.Common.{◌≡◌, ℕ, slice_range, ◌-◌, ◌<◌, ◌≤◌, true, List, length, get_or, take, drop, Some, None, Ok, Err, Option, Result, IfOk, Fits, w8, sym, ap, arith}
 use Rattle.std.specs.Option.{ok_or}
-use Rattle.std.proofs.lemmas.List.{length-drop, drop-drop}
+use Rattle.std.proofs.lemmas.List.{length-drop, take_all, drop-drop}
 use Rattle.std.proofs.lemmas.Bool.{le-leb, lt-leb}
 use Rattle.cbor.specs.Encoding.{all_bytes}
 use Rattle.cbor.specs.Reading.{BytesEnd}
@@ -16,6 +16,9 @@ use Rattle.checker.specs.Ends.{Stops, Ends}
 
 pub typed : (bs : List ℕ) → ((i : ℕ) → Fits w8 (get_or bs i 0)) → all_bytes bs ≡ true
 typed bs h = bytes_typed bs (λ i. omega (arith, h i))
+
+pub rest_is : (bs : List ℕ) (at : ℕ) → slice_range bs at (length bs) ≡ drop at bs
+rest_is bs at = take_all (length bs - at) (drop at bs) (rw (length-drop at bs) (omega arith))
 
 abbrev wrong_of : (I : Type 0) → ℕ → Told I
 wrong_of I p = wrong p

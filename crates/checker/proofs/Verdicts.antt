@@ -18,6 +18,7 @@ use Rattle.prefixes.proofs.Verdict.{check_is_right}
 use Rattle.checker.specs.declared.Stop.{Stop}
 use Rattle.checker.specs.declared.Stop.TheVariants.{Cut, Wrong}
 use Rattle.checker.specs.Checked.{Right}
+use Rattle.checker.proofs.Steps.{rest_is}
 use Rattle.checker.specs.Ends.{verdict_of, Stops, Ends}
 
 -- THE WHOLE
@@ -82,9 +83,6 @@ module _ (bs : List ℕ) (at n : ℕ) where
   text_told : ReachTold (TextOf n) (drop at bs) (walk_text n n (drop at bs))
   text_told = text_holds n n (drop at bs) (omega arith)
 
-  rest_is : slice_range bs at (length bs) ≡ drop at bs
-  rest_is = take_all (length bs - at) (drop at bs) (rw (length-drop at bs) (omega arith))
-
   none_shorter : (q : List ℕ) → length q < n → Unread (TextOf n) q
   none_shorter q l u rest (e, t) f = omega (arith, ap length f, length-append u rest)
 
@@ -115,7 +113,7 @@ module _ (bs : List ℕ) (at n : ℕ) where
       told_cut (TextOf n) (λ m u. Reach (TextOf n) u m) (drop at bs) (walk_text n n (drop at bs)) text_told (none_shorter (drop at bs) l) (subst (Begins (TextOf n)) (take_all n (drop at bs) (omega arith)) b)
 
   pub text_wrong : (p : ℕ) → FirstWrong n (slice_range bs at (length bs)) (Some p) → Stops at (Wrong (at + p)) (walk_text n n (drop at bs))
-  text_wrong p first = wrong_so p (subst (λ q. FirstWrong n q (Some p)) rest_is first)
+  text_wrong p first = wrong_so p (subst (λ q. FirstWrong n q (Some p)) (rest_is bs at) first)
 
   pub text_goes_on : (r : Option ℕ) → at ≤ length bs → FirstWrong n (slice_range bs at (length bs)) None → BytesEnd n bs at r → Ends bs at (ok_or r Cut) (walk_text n n (drop at bs))
-  text_goes_on r k first = goes_so r k (subst (λ q. FirstWrong n q None) rest_is first)
+  text_goes_on r k first = goes_so r k (subst (λ q. FirstWrong n q None) (rest_is bs at) first)

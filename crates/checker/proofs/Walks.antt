@@ -3,7 +3,6 @@ use Rattle.std.proofs.Common.{◌≡◌, ℕ, zero, suc, ◌-◌, ◌<◌, ◌�
 use Rattle.std.proofs.lemmas.Bool.{eq-eqb, ne_eqb, cases_eq}
 use Rattle.cbor.specs.declared.Major.{Major}
 use Rattle.cbor.specs.declared.Major.TheVariants.{Unsigned, Negative, Bytes, Text, Array, Map, Tag, Simple}
-use Rattle.cbor.specs.Encoding.{major_number}
 use Rattle.items.specs.declared.skipping.ItemHead.{ItemHead}
 use Rattle.prefixes.specs.Words.{joined, reach_of_head}
 use Rattle.prefixes.specs.Walks.{Told, done, cut, on_told, carry, walk_head, walk_body, walk_item, walk_bytes, walk_text, walk_many, walk_pairs, walk, after_of}

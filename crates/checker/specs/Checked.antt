@@ -23,3 +23,8 @@ abbrev pub line : Verdict → List ℕ
 line Complete = codes "complete"
 line Prefix = codes "prefix"
 line (Wrong p) = codes "wrong at " ++ decimal p
+
+-- why nothing is told, in words
+abbrev pub reason : NotChecked → List ℕ
+reason TooLittleLent = codes "fewer than " ++ decimal 64 ++ codes " numbers are lent"
+reason TooManyBytes = decimal 1152921504606846976 ++ codes " bytes or more"

@@ -3,7 +3,7 @@
 #![tactic(auto)]
 
 ghost use Rattle.std.specs.Prelude.{◌≡◌, Some};
-ghost use Rattle.checker.specs.Checked.{Checked, line};
+ghost use Rattle.checker.specs.Checked.{Checked, line, reason};
 ghost use Rattle.checker.specs.Ends.{verdict_of};
 
 use input::Input;
@@ -52,10 +52,12 @@ pub enum NotChecked {
 }
 
 impl fmt::Display for NotChecked {
+    ghost output = { λ e. Some (reason e) };
+
     fn fmt<W: fmt::Write>(&self, f: &mut fmt::Formatter<W>) -> fmt::Result {
         match self {
             NotChecked::TooLittleLent => write!(f, "fewer than {LENT} numbers are lent"),
-            NotChecked::TooManyBytes => write!(f, "there are 2^60 bytes or more"),
+            NotChecked::TooManyBytes => write!(f, "{TOO_MANY_BYTES} bytes or more"),
         }
     }
 }
