@@ -1,5 +1,5 @@
 // The keys of a map, each after the last.
-ghost use Rattle.std.specs.Prelude.{◌<◌, ◌≤◌, length, IfOk};
+ghost use Rattle.std.specs.Prelude.{◌≤◌, length, IfOk};
 ghost use Rattle.checker.specs.Keys.{AfterLast, Kept, KeyTold, KeyWithin, Misplaced, OddOf, OddWith, Refused};
 
 use crate::input::Input;
