@@ -133,7 +133,7 @@ pub entries_start : (bs : List ℕ) (d at n : ℕ) → GoesOn bs d (0 ∷ 0 ∷ 
 entries_start bs d at n (Some s) (a, b, c) = absurd (omega arith)
 entries_start bs d at n None k = record { within = tt; ls = []; at_last = tt; whole = λ r g. g }
 
-module _ (bs : List ℕ) (d : ℕ) (last : Option KeySpan) (at n start count : ℕ) (on : Going bs d last at n start count) (some : 0 < n) where
+module _ {bs : List ℕ} {d : ℕ} {last : Option KeySpan} {at n start count : ℕ} (on : Going bs d last at n start count) (some : 0 < n) where
   key_stop : (s : Stop) → Stops at s (next_key on.ls (drop at bs) (walk d (n - 1) (drop at bs))) → Stops start s (walk_pairs (walk d) count [] (drop start bs))
   key_stop s g = on.whole (Err s) (rw (pairs_step (walk d) n on.ls (drop at bs) some) (stop_ends at (next_key on.ls (drop at bs) (walk d (n - 1) (drop at bs))) _ s g))
 

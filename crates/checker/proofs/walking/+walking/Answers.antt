@@ -39,15 +39,15 @@ walk_entries-key_end-requires t c =
 pub walk_entries-returns-in_err-end : goal.walk_entries-returns-in_err-end
 walk_entries-returns-in_err-end t c =
     let p = err_from_is_err_and c.from_residual.result c.from_residual.ensures.1 in
-    rw (p.1, p.2) (key_refused c.args.input.bytes.now c.args.depth c.last_key-last.result c.loop-left.next c.loop-left.left c.args.at c.args.count (c.loop-left.invariant.2 c.last_key-last.result c.last_key-last.ensures) (omega arith) c.args.input.few c.args.input.below_256 (omega arith) c.walk-key.result c.walk-key.ensures c.in_err-end.field-0.0 c.in_err-end.ensures)
+    rw (p.1, p.2) (key_refused (c.loop-left.invariant.2 c.last_key-last.result c.last_key-last.ensures) (omega arith) c.args.input.few c.args.input.below_256 (omega arith) c.walk-key.result c.walk-key.ensures c.in_err-end.field-0.0 c.in_err-end.ensures)
 
 pub walk_entries-returns-in_err-next : goal.walk_entries-returns-in_err-next
 walk_entries-returns-in_err-next t c =
     let p = err_from_is_err_and c.from_residual-in_err-next.result c.from_residual-in_err-next.ensures.1 in
-    rw (p.1, p.2) (value_stop c.args.input.bytes.now c.args.depth c.last_key-last.result c.loop-left.next c.loop-left.left c.args.at c.args.count (c.loop-left.invariant.2 c.last_key-last.result c.last_key-last.ensures) (omega arith) c.args.input.few c.args.input.below_256 (omega arith) c.walk-key.result c.walk-key.ensures c.in_ok-end.end c.in_ok-end.ensures c.in_err-next.field-0.0 c.in_err-next.ensures)
+    rw (p.1, p.2) (value_stop (c.loop-left.invariant.2 c.last_key-last.result c.last_key-last.ensures) (omega arith) c.args.input.few c.args.input.below_256 (omega arith) c.walk-key.result c.walk-key.ensures c.in_ok-end.end c.in_ok-end.ensures c.in_err-next.field-0.0 c.in_err-next.ensures)
 
 pub walk_entries-loop-left-preserved : goal.walk_entries-loop-left-preserved
-walk_entries-loop-left-preserved t c = (c.in_ok-next.ensures.1.1, omega arith, entry_step c.args.input.bytes.now c.args.depth c.last_key-last.result c.loop-left.next c.loop-left.left c.args.at c.args.count (c.loop-left.invariant.2 c.last_key-last.result c.last_key-last.ensures) (omega arith) c.args.input.few c.args.input.below_256 (omega arith) c.walk-key.result c.walk-key.ensures c.in_ok-end.end c.in_ok-end.ensures c.in_ok-next.next c.in_ok-next.ensures)
+walk_entries-loop-left-preserved t c = (c.in_ok-next.ensures.1.1, omega arith, entry_step (c.loop-left.invariant.2 c.last_key-last.result c.last_key-last.ensures) (omega arith) c.args.input.few c.args.input.below_256 (omega arith) c.walk-key.result c.walk-key.ensures c.in_ok-end.end c.in_ok-end.ensures c.in_ok-next.next c.in_ok-next.ensures)
 
 pub walk_entries-returns : goal.walk_entries-returns
 walk_entries-returns t c = entries_none c.args.input.bytes.now c.args.depth c.loop-left.next c.loop-left.left c.args.at c.args.count c.loop-left.own c.loop-left.invariant.2 (omega arith) c.loop-left.invariant.0
