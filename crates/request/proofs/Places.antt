@@ -1,5 +1,5 @@
 -- Steps, paths and requests at places of lent bytes.
-use Rattle.std.proofs.Common.{◌≡◌, ℕ, zero, suc, ◌-◌, ◌<◌, ◌≤◌, List, [], ◌∷◌, ◌++◌, length, take, drop, Ok, Err, Result, sym, refl, ap, ◌∙◌, subst, arith, length-append, take-append-drop, Bor}
+use Rattle.std.proofs.Common.{◌≡◌, ℕ, zero, suc, ◌+◌, ◌-◌, ◌<◌, ◌≤◌, List, [], ◌∷◌, ◌++◌, length, take, drop, Ok, Err, Result, sym, refl, ap, ◌∙◌, subst, arith, length-append, take-append-drop, Bor}
 use Rattle.cbor.specs.declared.reading.Stop.{Stop}
 use Rattle.cbor.specs.Prefix.{Any, Stops}
 use Rattle.cbor.specs.Reading.{Stopped}
@@ -27,14 +27,13 @@ unfolding path_tokens WritablePath many
 one_more bs at mid n p (Ok end) w s (ps, l, v, t) = (p ∷ ps, ap suc l, (w, v), spelled_append (step_tokens p) (path_tokens ps) bs at mid end s t)
 one_more bs at mid n p (Err stop) w s f = λ ss. stop_after requests (a_step ∷ (many n a_step ++ ss)) (many n a_step ++ ss) (step_tokens p) bs at mid stop (step_takes p (many n a_step ++ ss) w) s (f ss)
 
-pub path_more : (bs : List ℕ) (at mid n : ℕ) (p : Step) (r : Result ℕ Stop) → 0 < n → WritableStep p → SpelledAt (step_tokens p) bs at mid → PathAt bs mid (n - 1) r → PathAt bs at n r
-path_more bs at mid zero p r z w s h = absurd (omega arith)
-path_more bs at mid (suc n) p r z w s h = one_more bs at mid n p r w s (subst (λ m. PathAt bs mid m r) (let y : suc n - 1 ≡ n = omega arith in y) h)
+-- after `k` of `count` steps, one more
+pub path_more : (bs : List ℕ) (at mid count k : ℕ) (p : Step) (r : Result ℕ Stop) → k < count → WritableStep p → SpelledAt (step_tokens p) bs at mid → PathAt bs mid (count - (k + 1)) r → PathAt bs at (count - k) r
+path_more bs at mid count k p r h w s f = subst (λ n. PathAt bs at n r) (let z : suc (count - (k + 1)) ≡ count - k = omega arith in z) (one_more bs at mid (count - (k + 1)) p r w s f)
 
-pub path_stop : (bs : List ℕ) (at n : ℕ) (stop : Stop) → 0 < n → ((ss : List Sort) → PendingStops requests (a_step ∷ ss) bs at stop) → PathAt bs at n (Err stop)
+pub path_stop : (bs : List ℕ) (at count k : ℕ) (stop : Stop) → k < count → ((ss : List Sort) → PendingStops requests (a_step ∷ ss) bs at stop) → PathAt bs at (count - k) (Err stop)
 unfolding many
-path_stop bs at zero stop z h = absurd (omega arith)
-path_stop bs at (suc n) stop z h = λ ss. h (many n a_step ++ ss)
+path_stop bs at count k stop h f = subst (λ n. PathAt bs at n (Err stop)) (let z : suc (count - (k + 1)) ≡ count - k = omega arith in z) (λ ss. f (many (count - (k + 1)) a_step ++ ss))
 
 -- REQUESTS
 

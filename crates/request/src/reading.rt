@@ -90,10 +90,8 @@ fn path_end(bytes: &[u8], at: usize, count: u64) -> Result<usize, Stop>
     ensures { PathAt bytes.now at count result }
 {
     let mut next = at;
-    let mut left = count;
-    while left > 0 {
+    for _ in 0..count {
         next = read_step(bytes, next)?.next;
-        left -= 1;
     }
     Ok(next)
 }
