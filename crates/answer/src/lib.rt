@@ -2,13 +2,14 @@
 
 #![tactic(auto)]
 
-ghost use Rattle.std.specs.Prelude.{◌≤◌, length};
+ghost use Rattle.std.specs.Prelude.{◌≤◌, length, Some, codes};
 ghost use Rattle.answer.specs.Promise.{Answers, RulesToldOf};
 
 use cbor::writing::head_size;
 use request::answers::{Answer, Refusal};
 use request::reading::{read_request, rules_in};
 use schema::reading::NoRules;
+use std::fmt;
 
 pub mod refusals;
 mod rules;
@@ -25,22 +26,26 @@ const OFFERED: Offered = Offered {
     fit: false,
 };
 
-#[derive(Clone, Copy)]
+#[derive(Clone, Copy, Debug, PartialEq, Eq)]
 pub struct TooLittleLent;
 
+impl fmt::Display for TooLittleLent {
+    ghost output = { λ _. Some (codes "too little is lent") };
+
+    fn fmt<W: fmt::Write>(&self, f: &mut fmt::Formatter<W>) -> fmt::Result {
+        write!(f, "too little is lent")
+    }
+}
+
+impl std::error::Error for TooLittleLent {}
+
 // The place at which the rules of a request are wrong, if they are all there and it is.
-fn wrong_rules(bytes: &[u8], lent: &mut [u64]) -> Option<usize>
-    requires { 49156 ≤ length lent.old }
+fn wrong_rules(bytes: &[u8], lent: &mut [u64; LENT]) -> Option<usize>
     ensures { RulesToldOf bytes.now result }
 {
-    let Some(rules) = rules_in(bytes) else {
-        return None;
-    };
-    let Err(reason) = read_into(rules, lent) else {
-        return None;
-    };
-    match reason {
-        NoRules::Wrong(place) => Some(1 + head_size(rules.len() as u64) + place),
+    let rules = rules_in(bytes)?;
+    match read_into(rules, lent) {
+        Err(NoRules::Wrong(place)) => Some(1 + head_size(rules.len() as u64) + place),
         _ => None,
     }
 }
@@ -49,9 +54,9 @@ fn wrong_rules(bytes: &[u8], lent: &mut [u64]) -> Option<usize>
 pub fn answer(bytes: &[u8], lent: &mut [u64]) -> Result<Answer, TooLittleLent>
     ensures { Answers (length lent.old) bytes.now result }
 {
-    if lent.len() < LENT {
+    let Some(lent) = lent.first_chunk_mut::<LENT>() else {
         return Err(TooLittleLent);
-    }
+    };
     if let Some(place) = wrong_rules(bytes, lent) {
         return Ok(Answer::Refused(Refusal::NotARequest, place));
     }

@@ -6,6 +6,7 @@ ghost use Rattle.answer.specs.Refusals.{offers, IsTooLarge, FirstRefusal};
 ghost use Rattle.schema.specs.Verdict.{HasTooMany};
 ghost use Rattle.answer.specs.Checks.{Passes, Decides};
 
+use crate::LENT;
 use crate::rules::read_into;
 use request::answers::Refusal;
 use request::reading::Request;
@@ -32,21 +33,16 @@ fn if_offered<'a>(request: Request<'a>, offered: Offered) -> Option<Request<'a>>
         Request::Find(_, _) => offered.find,
         Request::Fit(_, _, _) => offered.fit,
     };
-    if is_offered { Some(request) } else { None }
+    is_offered.then_some(request)
 }
 
-fn too_many_parts(rules: &[u8], lent: &mut [u64]) -> bool
-    requires { 49156 ≤ length lent.old }
+fn too_many_parts(rules: &[u8], lent: &mut [u64; LENT]) -> bool
     ensures { Decides result (HasTooMany rules.now) }
 {
-    match read_into(rules, lent) {
-        Err(NoRules::TooLarge) => true,
-        _ => false,
-    }
+    matches!(read_into(rules, lent), Err(NoRules::TooLarge))
 }
 
-fn if_within_limits<'a>(request: Request<'a>, lent: &mut [u64]) -> Option<Request<'a>>
-    requires { 49156 ≤ length lent.old }
+fn if_within_limits<'a>(request: Request<'a>, lent: &mut [u64; LENT]) -> Option<Request<'a>>
     ensures { Passes IsTooLarge request.entry result }
 {
     let too_large = match request {
@@ -54,16 +50,15 @@ fn if_within_limits<'a>(request: Request<'a>, lent: &mut [u64]) -> Option<Reques
         Request::Find(path, item) => path.count > MOST_STEPS || item.len() >= TOO_MANY_BYTES,
         Request::Fit(rules, _, item) => too_many_parts(rules, lent) || item.len() >= TOO_MANY_BYTES,
     };
-    if too_large { None } else { Some(request) }
+    (!too_large).then_some(request)
 }
 
 // The first refusal that applies to a request, where these kinds are offered.
 pub(crate) fn first_refusal(
     request: Request<'_>,
     offered: Offered,
-    lent: &mut [u64],
+    lent: &mut [u64; LENT],
 ) -> Option<Refusal>
-    requires { 49156 ≤ length lent.old }
     ensures { (a : Asked) → Means request.entry a → FirstRefusal offered a result }
 {
     let Some(request) = if_offered(request, offered) else {
