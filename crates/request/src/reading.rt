@@ -1,7 +1,6 @@
 // Requests read from lent bytes as parts of them, with the place where there is none.
-ghost use Rattle.std.specs.Prelude.{◌≡◌, ◌-◌, ◌≤◌, length, take, drop};
 ghost use Rattle.request.specs.Grammar.{after_request};
-ghost use Rattle.request.specs.Reading.{StepAt, PathAt, RestAt, RequestAt, ReadsBack, Reaches, RulesIn};
+ghost use Rattle.request.specs.Reading.{StepKindAt, KindAt, StepAt, PathAt, RestAt, RequestAt, ReadsBack, Reaches, RulesIn};
 
 use cbor::reading::Stop;
 use sequence::reading::{read_number, read_opcode, read_string};
@@ -29,17 +28,27 @@ pub enum Request<'a> {
     Fit(&'a [u8], u64, &'a [u8]),
 }
 
+// A value that was read, and where what follows it stands.
 #[derive(Clone, Copy)]
-pub struct NextStep<'a> {
-    pub step: Step<'a>,
+pub struct Parsed<T> {
+    pub value: T,
     pub next: usize,
 }
 
-// A request, and how many bytes it took.
-#[derive(Clone, Copy)]
-pub struct Taken<'a> {
-    pub request: Request<'a>,
-    pub took: usize,
+// The kinds of steps, by the numbers that they are written with.
+#[derive(Clone, Copy, Debug, PartialEq, Eq)]
+pub(crate) enum StepKind {
+    Index = 0,
+    Key = 1,
+    Content = 2,
+}
+
+// The kinds of requests, by the numbers that they are written with.
+#[derive(Clone, Copy, Debug, PartialEq, Eq)]
+pub(crate) enum Kind {
+    Check = 0,
+    Find = 1,
+    Fit = 2,
 }
 
 // How far the first request in some bytes reaches: it takes so many; all of them begin one, which has at least so many; or from a place on
@@ -51,99 +60,122 @@ pub enum Extent {
     Wrong(usize),
 }
 
-fn part<'a>(bytes: &'a [u8], from: usize, next: usize) -> &'a [u8]
-    requires from_le_next { from ≤ next }
-    requires next_in_bounds { next ≤ length bytes.now }
-    ensures { result.now ≡ take (next - from) (drop from bytes.now) }
+fn read_step_kind(bytes: &[u8], at: usize) -> Result<Parsed<StepKind>, Stop>
+    ensures { StepKindAt bytes.now at result }
 {
-    &bytes[from..next]
+    let number = read_opcode(bytes, at, 2)?;
+    let value = match number.argument {
+        0 => StepKind::Index,
+        1 => StepKind::Key,
+        _ => StepKind::Content,
+    };
+    Ok(Parsed {
+        value,
+        next: number.next,
+    })
+}
+
+fn read_kind(bytes: &[u8], at: usize) -> Result<Parsed<Kind>, Stop>
+    ensures { KindAt bytes.now at result }
+{
+    let number = read_opcode(bytes, at, 2)?;
+    let value = match number.argument {
+        0 => Kind::Check,
+        1 => Kind::Find,
+        _ => Kind::Fit,
+    };
+    Ok(Parsed {
+        value,
+        next: number.next,
+    })
 }
 
 // The step that stands at a place.
-pub fn read_step<'a>(bytes: &'a [u8], at: usize) -> Result<NextStep<'a>, Stop>
+pub fn read_step<'a>(bytes: &'a [u8], at: usize) -> Result<Parsed<Step<'a>>, Stop>
     ensures { StepAt bytes.now at result }
 {
-    let kind = read_opcode(bytes, at, 2)?;
-    if kind.argument == 0 {
-        let index = read_number(bytes, kind.next)?;
-        return Ok(NextStep {
-            step: Step::Index(index.argument),
-            next: index.next,
-        });
+    let kind = read_step_kind(bytes, at)?;
+    match kind.value {
+        StepKind::Index => {
+            let index = read_number(bytes, kind.next)?;
+            Ok(Parsed {
+                value: Step::Index(index.argument),
+                next: index.next,
+            })
+        }
+        StepKind::Key => {
+            let key = read_string(bytes, kind.next)?;
+            Ok(Parsed {
+                value: Step::Key(key.content),
+                next: key.next,
+            })
+        }
+        StepKind::Content => Ok(Parsed {
+            value: Step::Content,
+            next: kind.next,
+        }),
     }
-    if kind.argument == 1 {
-        let key = read_string(bytes, kind.next)?;
-        return Ok(NextStep {
-            step: Step::Key(key.value),
-            next: key.next,
-        });
-    }
-    Ok(NextStep {
-        step: Step::Content,
-        next: kind.next,
-    })
 }
 
-// Where so many steps end.
-fn path_end(bytes: &[u8], at: usize, count: u64) -> Result<usize, Stop>
-    requires { at ≤ length bytes.now }
-    ensures { PathAt bytes.now at count result }
+// A path: how many steps, and the steps.
+fn read_path<'a>(bytes: &'a [u8], at: usize) -> Result<Parsed<Path<'a>>, Stop>
+    ensures { PathAt bytes.now at result }
 {
-    let mut next = at;
-    for _ in 0..count {
+    let count = read_number(bytes, at)?;
+    let mut next = count.next;
+    for _ in 0..count.argument {
         next = read_step(bytes, next)?.next;
     }
-    Ok(next)
+    let value = Path {
+        count: count.argument,
+        steps: &bytes[count.next..next],
+    };
+    Ok(Parsed { value, next })
 }
 
-fn read_check<'a>(bytes: &'a [u8], at: usize) -> Result<Taken<'a>, Stop>
+fn read_check<'a>(bytes: &'a [u8], at: usize) -> Result<Parsed<Request<'a>>, Stop>
     ensures { RestAt 0 (after_request 0) bytes.now at result }
 {
     let item = read_string(bytes, at)?;
-    Ok(Taken {
-        request: Request::Check(item.value),
-        took: item.next,
+    Ok(Parsed {
+        value: Request::Check(item.content),
+        next: item.next,
     })
 }
 
-fn read_find<'a>(bytes: &'a [u8], at: usize) -> Result<Taken<'a>, Stop>
+fn read_find<'a>(bytes: &'a [u8], at: usize) -> Result<Parsed<Request<'a>>, Stop>
     ensures { RestAt 1 (after_request 1) bytes.now at result }
 {
-    let count = read_number(bytes, at)?;
-    let end = path_end(bytes, count.next, count.argument)?;
-    let item = read_string(bytes, end)?;
-    let path = Path {
-        count: count.argument,
-        steps: part(bytes, count.next, end),
-    };
-    Ok(Taken {
-        request: Request::Find(path, item.value),
-        took: item.next,
+    let path = read_path(bytes, at)?;
+    let item = read_string(bytes, path.next)?;
+    Ok(Parsed {
+        value: Request::Find(path.value, item.content),
+        next: item.next,
     })
 }
 
-fn read_fit<'a>(bytes: &'a [u8], at: usize) -> Result<Taken<'a>, Stop>
+fn read_fit<'a>(bytes: &'a [u8], at: usize) -> Result<Parsed<Request<'a>>, Stop>
     ensures { RestAt 2 (after_request 2) bytes.now at result }
 {
     let rules = read_string(bytes, at)?;
     let which = read_number(bytes, rules.next)?;
     let item = read_string(bytes, which.next)?;
-    Ok(Taken {
-        request: Request::Fit(rules.value, which.argument, item.value),
-        took: item.next,
+    Ok(Parsed {
+        value: Request::Fit(rules.content, which.argument, item.content),
+        next: item.next,
     })
 }
 
 // The request that stands at the beginning of some bytes, or where they cease to begin one. Rules are not looked into.
-pub fn read_request<'a>(bytes: &'a [u8]) -> Result<Taken<'a>, Stop>
+pub fn read_request<'a>(bytes: &'a [u8]) -> Result<Parsed<Request<'a>>, Stop>
     ensures right { RequestAt bytes.now result }
     ensures back { ReadsBack bytes.now result }
 {
-    let kind = read_opcode(bytes, 0, 2)?;
-    match kind.argument {
-        0 => read_check(bytes, kind.next),
-        1 => read_find(bytes, kind.next),
-        _ => read_fit(bytes, kind.next),
+    let kind = read_kind(bytes, 0)?;
+    match kind.value {
+        Kind::Check => read_check(bytes, kind.next),
+        Kind::Find => read_find(bytes, kind.next),
+        Kind::Fit => read_fit(bytes, kind.next),
     }
 }
 
@@ -151,7 +183,7 @@ pub fn extent_of(bytes: &[u8]) -> Extent
     ensures { Reaches bytes.now result }
 {
     match read_request(bytes) {
-        Ok(taken) => Extent::Complete(taken.took),
+        Ok(request) => Extent::Complete(request.next),
         Err(stop) if stop.place < bytes.len() => Extent::Wrong(stop.place),
         Err(stop) => Extent::Incomplete(stop.least),
     }
@@ -161,14 +193,9 @@ pub fn extent_of(bytes: &[u8]) -> Extent
 pub fn rules_in<'a>(bytes: &'a [u8]) -> Option<&'a [u8]>
     ensures { RulesIn bytes.now result }
 {
-    let Ok(kind) = read_opcode(bytes, 0, 2) else {
-        return None;
-    };
-    if kind.argument != 2 {
-        return None;
+    let kind = read_kind(bytes, 0).ok()?;
+    match kind.value {
+        Kind::Fit => Some(read_string(bytes, kind.next).ok()?.content),
+        Kind::Check | Kind::Find => None,
     }
-    let Ok(rules) = read_string(bytes, kind.next) else {
-        return None;
-    };
-    Some(rules.value)
 }
