@@ -15,7 +15,7 @@ use Rattle.request.specs.declared.reading.Request.{Request}
 use Rattle.request.specs.declared.reading.Request.TheVariants.{Check, Find, Fit}
 use Rattle.request.specs.declared.reading.Kind.{Kind}
 use Rattle.request.specs.declared.reading.Kind.TheVariants.{Check as KindCheck, Find as KindFind}
-use Rattle.request.specs.declared.reading.Parsed.{Parsed}
+use Rattle.sequence.specs.declared.reading.Parsed.{Parsed}
 use Rattle.request.specs.Asked.{Step, Asked, check, find, fit, step_tokens, path_tokens, write, WritableStep, WritablePath}
 use Rattle.request.specs.Grammar.{Sort, a_request, a_path, a_step, a_string, many, shape, after_request, after_step, requests}
 use Rattle.request.specs.Reading.{kind_number, Means, StepAt, PathAt, RestAt, RequestAt, ReadsBack, RulesThere}

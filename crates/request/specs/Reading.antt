@@ -11,7 +11,7 @@ use Rattle.request.specs.declared.reading.Step.TheVariants.{Index, Key, Content}
 use Rattle.request.specs.declared.reading.Path.{Path}
 use Rattle.request.specs.declared.reading.Request.{Request}
 use Rattle.request.specs.declared.reading.Request.TheVariants.{Check, Find, Fit}
-use Rattle.request.specs.declared.reading.Parsed.{Parsed}
+use Rattle.sequence.specs.declared.reading.Parsed.{Parsed}
 use Rattle.request.specs.declared.reading.StepKind.{StepKind}
 use Rattle.request.specs.declared.reading.StepKind.TheVariants.{Index as KindIndex, Key as KindKey, Content as KindContent}
 use Rattle.request.specs.declared.reading.Kind.{Kind}

@@ -3,7 +3,7 @@ ghost use Rattle.request.specs.Grammar.{after_request};
 ghost use Rattle.request.specs.Reading.{StepKindAt, KindAt, StepAt, PathAt, RestAt, RequestAt, ReadsBack, Reaches, RulesIn};
 
 use cbor::reading::Stop;
-use sequence::reading::{read_number, read_opcode, read_string};
+use sequence::reading::{Parsed, read_number, read_opcode, read_string};
 
 // A step into an item: an array's element by its number from 0, the value at a key, what a tag is on.
 #[derive(Clone, Copy)]
@@ -26,13 +26,6 @@ pub enum Request<'a> {
     Find(Path<'a>, &'a [u8]),
     // the bytes of rules, which of them, the item
     Fit(&'a [u8], u64, &'a [u8]),
-}
-
-// A value that was read, and where what follows it stands.
-#[derive(Clone, Copy)]
-pub struct Parsed<T> {
-    pub value: T,
-    pub next: usize,
 }
 
 // The kinds of steps, by the numbers that they are written with.
@@ -103,13 +96,7 @@ pub fn read_step<'a>(bytes: &'a [u8], at: usize) -> Result<Parsed<Step<'a>>, Sto
                 next: index.next,
             })
         }
-        StepKind::Key => {
-            let key = read_string(bytes, kind.next)?;
-            Ok(Parsed {
-                value: Step::Key(key.content),
-                next: key.next,
-            })
-        }
+        StepKind::Key => Ok(read_string(bytes, kind.next)?.map(Step::Key)),
         StepKind::Content => Ok(Parsed {
             value: Step::Content,
             next: kind.next,
@@ -136,11 +123,7 @@ fn read_path<'a>(bytes: &'a [u8], at: usize) -> Result<Parsed<Path<'a>>, Stop>
 fn read_check<'a>(bytes: &'a [u8], at: usize) -> Result<Parsed<Request<'a>>, Stop>
     ensures { RestAt 0 (after_request 0) bytes.now at result }
 {
-    let item = read_string(bytes, at)?;
-    Ok(Parsed {
-        value: Request::Check(item.content),
-        next: item.next,
-    })
+    Ok(read_string(bytes, at)?.map(Request::Check))
 }
 
 fn read_find<'a>(bytes: &'a [u8], at: usize) -> Result<Parsed<Request<'a>>, Stop>
@@ -149,7 +132,7 @@ fn read_find<'a>(bytes: &'a [u8], at: usize) -> Result<Parsed<Request<'a>>, Stop
     let path = read_path(bytes, at)?;
     let item = read_string(bytes, path.next)?;
     Ok(Parsed {
-        value: Request::Find(path.value, item.content),
+        value: Request::Find(path.value, item.value),
         next: item.next,
     })
 }
@@ -161,7 +144,7 @@ fn read_fit<'a>(bytes: &'a [u8], at: usize) -> Result<Parsed<Request<'a>>, Stop>
     let which = read_number(bytes, rules.next)?;
     let item = read_string(bytes, which.next)?;
     Ok(Parsed {
-        value: Request::Fit(rules.content, which.argument, item.content),
+        value: Request::Fit(rules.value, which.argument, item.value),
         next: item.next,
     })
 }
@@ -195,7 +178,7 @@ pub fn rules_in<'a>(bytes: &'a [u8]) -> Option<&'a [u8]>
 {
     let kind = read_kind(bytes, 0).ok()?;
     match kind.value {
-        Kind::Fit => Some(read_string(bytes, kind.next).ok()?.content),
+        Kind::Fit => Some(read_string(bytes, kind.next).ok()?.value),
         Kind::Check | Kind::Find => None,
     }
 }

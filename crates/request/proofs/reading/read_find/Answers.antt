@@ -18,4 +18,4 @@ returns-in_err-item c =
     handed_on (RestAt 1 (after_request 1) c.args.bytes.now c.args.at) c.from_residual-in_err-item.result s c.from_residual-in_err-item.ensures.1 (find_item_stops c.args.bytes.now c.args.at path.next path.value s c.in_ok-path.ensures (stop_first requests completable a_string [] c.args.bytes.now path.next s c.in_err-item.ensures))
 
 pub returns : goal.returns
-returns c = find_there c.args.bytes.now c.args.at c.in_ok-path.path.next c.in_ok-item.item.next c.in_ok-path.path.value c.in_ok-item.item.content c.in_ok-path.ensures c.in_ok-item.ensures
+returns c = find_there c.args.bytes.now c.args.at c.in_ok-path.path.next c.in_ok-item.item.next c.in_ok-path.path.value c.in_ok-item.item.value c.in_ok-path.ensures c.in_ok-item.ensures

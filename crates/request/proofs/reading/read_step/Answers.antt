@@ -16,11 +16,11 @@ returns-in_err-index-in-Index c =
     let s = c.in_err-index-in-Index.field-0.0 in
     handed_on (StepAt c.args.bytes.now c.args.at) c.from_residual-in_err-index-in-Index.result s c.from_residual-in_err-index-in-Index.ensures.1 (step_stops c.args.bytes.now c.args.at c.in_ok-kind.kind.next 0 a_number s refl t c.in_err-index-in-Index.ensures)
 
-pub returns-in_err-key-in-Key : goal.returns-in_err-key-in-Key
-returns-in_err-key-in-Key c =
+pub returns-in_err-read_string-in-Key : goal.returns-in_err-read_string-in-Key
+returns-in_err-read_string-in-Key c =
     let t = rw c.in-Key.is at c.in_ok-kind.ensures in
-    let s = c.in_err-key-in-Key.field-0.0 in
-    handed_on (StepAt c.args.bytes.now c.args.at) c.from_residual-in_err-key-in-Key.result s c.from_residual-in_err-key-in-Key.ensures.1 (step_stops c.args.bytes.now c.args.at c.in_ok-kind.kind.next 1 a_string s refl t c.in_err-key-in-Key.ensures)
+    let s = c.in_err-read_string-in-Key.field-0.0 in
+    handed_on (StepAt c.args.bytes.now c.args.at) c.from_residual-in_err-read_string-in-Key.result s c.from_residual-in_err-read_string-in-Key.ensures.1 (step_stops c.args.bytes.now c.args.at c.in_ok-kind.kind.next 1 a_string s refl t c.in_err-read_string-in-Key.ensures)
 
 pub returns-in_ok-index-in-Index : goal.returns-in_ok-index-in-Index
 returns-in_ok-index-in-Index c =
@@ -28,11 +28,11 @@ returns-in_ok-index-in-Index c =
     let index = c.in_ok-index-in-Index.index in
     (c.in_ok-index-in-Index.ensures.0.2.1, spelled_two (opcode 2) number (num 0) (num index.argument) c.args.bytes.now c.args.at c.in_ok-kind.kind.next index.next t c.in_ok-index-in-Index.ensures)
 
-pub returns-in_ok-key-in-Key : goal.returns-in_ok-key-in-Key
-returns-in_ok-key-in-Key c =
+pub returns-in_ok-read_string-in-Key : goal.returns-in_ok-read_string-in-Key
+returns-in_ok-read_string-in-Key c =
     let t = rw c.in-Key.is at c.in_ok-kind.ensures in
-    let key = c.in_ok-key-in-Key.key in
-    (c.in_ok-key-in-Key.ensures.0.2.1, spelled_two (opcode 2) string (num 1) (str key.content.now) c.args.bytes.now c.args.at c.in_ok-kind.kind.next key.next t c.in_ok-key-in-Key.ensures)
+    let key = c.in_ok-read_string-in-Key.field-0 in
+    rw (c.map.ensures.value, c.map.ensures.next) (c.in_ok-read_string-in-Key.ensures.0.2.1, spelled_two (opcode 2) string (num 1) (str key.value.now) c.args.bytes.now c.args.at c.in_ok-kind.kind.next key.next t c.in_ok-read_string-in-Key.ensures)
 
 pub returns-in-Content : goal.returns-in-Content
 returns-in-Content c =

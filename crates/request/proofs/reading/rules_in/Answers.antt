@@ -20,7 +20,7 @@ returns-in_ok-ok-in-Fit c =
     let kind = c.in_ok-kind.kind in
     let rules = c.in_ok-ok-in-Fit.field-0 in
     let t = rw c.in-Fit.is at (told_ok (KindAt c.args.bytes.now 0) c.read_kind.result kind c.in_ok-kind.ensures.value c.read_kind.ensures) in
-    rules_there c.args.bytes.now rules.content.now kind.next rules.next t (told_ok (StringAt c.args.bytes.now kind.next) c.read_string.result rules c.in_ok-ok-in-Fit.ensures.value c.read_string.ensures)
+    rules_there c.args.bytes.now rules.value.now kind.next rules.next t (told_ok (StringAt c.args.bytes.now kind.next) c.read_string.result rules c.in_ok-ok-in-Fit.ensures.value c.read_string.ensures)
 
 pub returns-in-Check : goal.returns-in-Check
 returns-in-Check c =
