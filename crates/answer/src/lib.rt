@@ -60,11 +60,11 @@ pub fn answer(bytes: &[u8], lent: &mut [u64]) -> Result<Answer, TooLittleLent>
     if let Some(place) = wrong_rules(bytes, lent) {
         return Ok(Answer::Refused(Refusal::NotARequest, place));
     }
-    let taken = match read_request(bytes) {
-        Ok(taken) => taken,
+    let request = match read_request(bytes) {
+        Ok(request) => request,
         Err(stop) => return Ok(Answer::Refused(Refusal::NotARequest, stop.place)),
     };
-    let Some(refusal) = first_refusal(taken.request, OFFERED, lent) else {
+    let Some(refusal) = first_refusal(request.value, OFFERED, lent) else {
         unreachable()
     };
     Ok(Answer::Refused(refusal, 0))

@@ -22,8 +22,7 @@ pub struct Offered {
 
 pub const MOST_STEPS: u64 = 32;
 
-// 2^60
-pub const TOO_MANY_BYTES: usize = 1152921504606846976;
+pub use cbor::TOO_MANY_BYTES;
 
 fn if_offered<'a>(request: Request<'a>, offered: Offered) -> Option<Request<'a>>
     ensures { Passes (λ a. offers offered a ≡ false) request.entry result }

@@ -14,4 +14,4 @@ returns-in-Err c = (c.in-Some.ensures.variant.0 refl, inr (c.in_default-wrong_ru
 pub returns : goal.returns
 returns c =
     let (a, m, (e, w), l) = c.in-Ok.ensures.right in
-    (c.in-Some.ensures.variant.0 refl, refused c.args.bytes.now a c.in-Ok.taken.took c.in-Some-first_refusal.refusal l e w c.in_default-wrong_rules.ensures (c.in-Some-first_refusal.ensures a m))
+    (c.in-Some.ensures.variant.0 refl, refused c.args.bytes.now a c.in-Ok.request.next c.in-Some-first_refusal.refusal l e w c.in_default-wrong_rules.ensures (c.in-Some-first_refusal.ensures a m))
