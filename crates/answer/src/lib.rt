@@ -3,12 +3,13 @@
 #![tactic(auto)]
 
 ghost use Rattle.std.specs.Prelude.{◌≤◌, length, Some, codes};
-ghost use Rattle.answer.specs.Promise.{Answers, RulesToldOf};
+ghost use Rattle.answer.specs.Promise.{Answers, RequestIn, RulesToldOf};
 
 use cbor::writing::head_size;
 use request::answers::{Answer, Refusal};
-use request::reading::{read_request, rules_in};
+use request::reading::{Request, read_request, rules_in};
 use schema::reading::NoRules;
+use sequence::reading::Parsed;
 use std::fmt;
 
 pub mod refusals;
@@ -50,6 +51,16 @@ fn wrong_rules(bytes: &[u8], lent: &mut [u64; LENT]) -> Option<usize>
     }
 }
 
+// The request that some bytes begin with, or the place at which they are none. Rules that are all there are read before it.
+fn request_in<'a>(bytes: &'a [u8], lent: &mut [u64; LENT]) -> Result<Parsed<Request<'a>>, usize>
+    ensures { RequestIn bytes.now result }
+{
+    match wrong_rules(bytes, lent) {
+        Some(place) => Err(place),
+        None => read_request(bytes).map_err(|stop| stop.place),
+    }
+}
+
 // The answer to the request that some bytes begin with; bytes that begin with none are refused, with the place.
 pub fn answer(bytes: &[u8], lent: &mut [u64]) -> Result<Answer, TooLittleLent>
     ensures { Answers (length lent.old) bytes.now result }
@@ -57,15 +68,13 @@ pub fn answer(bytes: &[u8], lent: &mut [u64]) -> Result<Answer, TooLittleLent>
     let Some(lent) = lent.first_chunk_mut::<LENT>() else {
         return Err(TooLittleLent);
     };
-    if let Some(place) = wrong_rules(bytes, lent) {
-        return Ok(Answer::Refused(Refusal::NotARequest, place));
+    match request_in(bytes, lent) {
+        Ok(request) => {
+            let Some(refusal) = first_refusal(request.value, OFFERED, lent) else {
+                unreachable()
+            };
+            Ok(Answer::Refused(refusal, 0))
+        }
+        Err(place) => Ok(Answer::Refused(Refusal::NotARequest, place)),
     }
-    let request = match read_request(bytes) {
-        Ok(request) => request,
-        Err(stop) => return Ok(Answer::Refused(Refusal::NotARequest, stop.place)),
-    };
-    let Some(refusal) = first_refusal(request.value, OFFERED, lent) else {
-        unreachable()
-    };
-    Ok(Answer::Refused(refusal, 0))
 }

@@ -12,7 +12,7 @@ use request::answers::Refusal;
 use request::reading::Request;
 use schema::reading::NoRules;
 
-// Which kinds of request are answered.
+// Which kinds of request are answered. A set of kinds in an array would be no plainer: here each kind has its name, and none can be left out.
 #[derive(Clone, Copy)]
 pub struct Offered {
     pub check: bool,
