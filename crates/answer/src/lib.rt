@@ -2,7 +2,7 @@
 
 #![tactic(auto)]
 
-ghost use Rattle.std.specs.Prelude.{◌≤◌, length, Some, codes};
+ghost use Rattle.std.specs.Prelude.{length, Some, codes};
 ghost use Rattle.answer.specs.Promise.{Answers, RequestIn, RulesToldOf};
 
 use cbor::writing::head_size;

@@ -1,5 +1,5 @@
 // The refusals of requests, in their order: each check hands on its request, or its refusal is returned.
-ghost use Rattle.std.specs.Prelude.{◌≡◌, ◌≤◌, true, false, length};
+ghost use Rattle.std.specs.Prelude.{◌≡◌, false};
 ghost use Rattle.request.specs.Asked.{Asked};
 ghost use Rattle.request.specs.Reading.{Means};
 ghost use Rattle.answer.specs.Refusals.{offers, IsTooLarge, FirstRefusal};

@@ -1,5 +1,5 @@
 // Rules read over lent numbers: a stack, and the table that they are read into.
-ghost use Rattle.std.specs.Prelude.{ℕ, ◌≤◌, List, length};
+ghost use Rattle.std.specs.Prelude.{ℕ, List};
 ghost use Rattle.schema.specs.Verdict.{RulesAt};
 
 use crate::LENT;
