@@ -102,32 +102,25 @@ opened bs rules rest e =
 pub none_without_opcode : (bs rules : List ℕ) (stop : Stop) → Stopped (Any (TokenOf (opcode 2))) bs 0 stop → RulesThere bs rules → ⊥
 none_without_opcode bs rules stop h (b, (rest, e)) = none_stands (opcode 2) (num 2) (str rules ∷ []) bs 0 (length (spell (opening rules))) stop (omega arith, omega arith) (opened bs rules rest e) h
 
--- another one
-pub none_by_another : (bs rules : List ℕ) (n mid : ℕ) → TokenAt (opcode 2) (num n) bs 0 mid → (n ≡ 2 → ⊥) → RulesThere bs rules → ⊥
-none_by_another bs rules n mid t differ (b, (rest, e)) =
+-- the opcode there, and the rules after it
+after_opcode : (bs rules : List ℕ) (n mid : ℕ) → TokenAt (opcode 2) (num n) bs 0 mid → RulesThere bs rules → (n ≡ 2) × SpelledAt (str rules ∷ []) bs mid (length (spell (opening rules)))
+after_opcode bs rules n mid t (b, (rest, e)) =
     let (f, p) = same_token (opcode 2) (num n) (num 2) (str rules ∷ []) bs 0 mid (length (spell (opening rules))) t.0 (omega arith, omega arith) (opened bs rules rest e) in
-    differ (cc)
+    (cc, p)
 
-pub kind_differs : (k : Kind) → (k ≡ KindCheck) ⊎ (k ≡ KindFind) → kind_number k ≡ 2 → ⊥
-kind_differs k (inl e) h = let z : kind_number k ≡ 0 = ap kind_number e in omega arith
-kind_differs k (inr e) h = let z : kind_number k ≡ 1 = ap kind_number e in omega arith
+pub none_of_another : (bs rules : List ℕ) (k : Kind) (mid : ℕ) → TokenAt (opcode 2) (num (kind_number k)) bs 0 mid → (k ≡ KindCheck) ⊎ (k ≡ KindFind) → RulesThere bs rules → ⊥
+none_of_another bs rules k mid t (inl e) h = let z = (after_opcode bs rules (kind_number k) mid t h).0 in let y : kind_number k ≡ 0 = ap kind_number e in omega arith
+none_of_another bs rules k mid t (inr e) h = let z = (after_opcode bs rules (kind_number k) mid t h).0 in let y : kind_number k ≡ 1 = ap kind_number e in omega arith
 
--- no string after it
 pub none_without_string : (bs rules : List ℕ) (mid : ℕ) (stop : Stop) → TokenAt (opcode 2) (num 2) bs 0 mid → Stopped (Any (TokenOf string)) bs mid stop → RulesThere bs rules → ⊥
-none_without_string bs rules mid stop t h (b, (rest, e)) =
-    let (f, p) = same_token (opcode 2) (num 2) (num 2) (str rules ∷ []) bs 0 mid (length (spell (opening rules))) t.0 (omega arith, omega arith) (opened bs rules rest e) in
-    none_stands string (str rules) [] bs mid (length (spell (opening rules))) stop b p h
+none_without_string bs rules mid stop t h r = none_stands string (str rules) [] bs mid (length (spell (opening rules))) stop r.0 (after_opcode bs rules 2 mid t r).1 h
 
--- a string after it
 pub rules_there : (bs rules : List ℕ) (mid end : ℕ) → TokenAt (opcode 2) (num 2) bs 0 mid → TokenAt string (str rules) bs mid end → RulesThere bs rules × ((other : List ℕ) → RulesThere bs other → other ≡ rules)
 rules_there bs rules mid end t r =
     let p = spelled_two (opcode 2) string (num 2) (str rules) bs 0 mid end t r in
     let k : end - 0 ≡ end = omega arith in (
       (r.0.2.1, (drop end bs, sym (take-append-drop end bs) ∙ ap (λ u. u ++ drop end bs) (ap (λ j. take j bs) (sym k) ∙ p.2))),
-      λ other (b, (rest, e)).
-          let (f, q) = same_token (opcode 2) (num 2) (num 2) (str other ∷ []) bs 0 mid (length (spell (opening other))) t.0 (omega arith, omega arith) (opened bs other rest e) in
-          let (g, o) = same_token string (str rules) (str other) [] bs mid end (length (spell (opening other))) r.0 b q in
-          cc,
+      λ other h. let g = same_token string (str rules) (str other) [] bs mid end (length (spell (opening other))) r.0 h.0 (after_opcode bs other 2 mid t h).1 in let f = g.0 in cc,
     )
 
 -- from their first byte

@@ -46,7 +46,7 @@ pub(crate) enum Kind {
 
 // How far the first request in some bytes reaches: it takes so many; all of them begin one, which has at least so many; or from a place on
 // they begin none.
-#[derive(Clone, Copy)]
+#[derive(Clone, Copy, Debug, PartialEq, Eq)]
 pub enum Extent {
     Complete(usize),
     Incomplete(usize),

@@ -1,6 +1,6 @@
 use Rattle.sequence.specs.Reading.{StringAt}
-use Rattle.request.specs.Reading.{kind_number, KindAt}
-use Rattle.request.proofs.Places.{told_ok, told_none, none_without_opcode, none_by_another, kind_differs, none_without_string, rules_there}
+use Rattle.request.specs.Reading.{KindAt}
+use Rattle.request.proofs.Places.{told_ok, told_none, none_without_opcode, none_of_another, none_without_string, rules_there}
 use Rattle.request.proofs.reading.rules_in.Goals as goal
 
 pub returns-in_err-kind : goal.returns-in_err-kind
@@ -25,4 +25,4 @@ returns-in_ok-ok-in-Fit c =
 pub returns-in-Check : goal.returns-in-Check
 returns-in-Check c =
     let kind = c.in_ok-kind.kind in
-    λ rules. none_by_another c.args.bytes.now rules (kind_number kind.value) kind.next (told_ok (KindAt c.args.bytes.now 0) c.read_kind.result kind c.in_ok-kind.ensures.value c.read_kind.ensures) (kind_differs kind.value c.in-Check.is)
+    λ rules. none_of_another c.args.bytes.now rules kind.value kind.next (told_ok (KindAt c.args.bytes.now 0) c.read_kind.result kind c.in_ok-kind.ensures.value c.read_kind.ensures) c.in-Check.is
