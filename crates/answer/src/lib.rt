@@ -8,7 +8,7 @@ ghost use Rattle.answer.specs.Promise.{Answers, RequestIn, RulesToldOf};
 use cbor::writing::head_size;
 use request::answers::{Answer, Refusal};
 use request::reading::{Request, read_request, rules_in};
-use schema::reading::NoRules;
+use schema::reading::{NoRules, STACK, TABLE};
 use sequence::reading::Parsed;
 use std::fmt;
 
@@ -19,7 +19,7 @@ use refusals::{Offered, first_refusal};
 use rules::read_into;
 
 // How many numbers have to be lent: what reading rules takes for its stack and for their table.
-pub const LENT: usize = 49156;
+pub const LENT: usize = STACK + TABLE;
 
 const OFFERED: Offered = Offered {
     check: false,

@@ -32,13 +32,9 @@ kind_number KindCheck = 0
 kind_number KindFind = 1
 kind_number KindFit = 2
 
-abbrev pub StepKindAt : List ℕ → ℕ → Result (Parsed StepKind) Stop → Type 0
-StepKindAt bs at (Ok x) = TokenAt (opcode 2) (num (step_number x.value)) bs at x.next
-StepKindAt bs at (Err s) = Stopped (Any (TokenOf (opcode 2))) bs at s
-
-abbrev pub KindAt : List ℕ → ℕ → Result (Parsed Kind) Stop → Type 0
-KindAt bs at (Ok x) = TokenAt (opcode 2) (num (kind_number x.value)) bs at x.next
-KindAt bs at (Err s) = Stopped (Any (TokenOf (opcode 2))) bs at s
+abbrev pub KindAt : {K : Type 0} → (K → ℕ) → List ℕ → ℕ → Result (Parsed K) Stop → Type 0
+KindAt number bs at (Ok x) = TokenAt (opcode 2) (num (number x.value)) bs at x.next
+KindAt number bs at (Err s) = Stopped (Any (TokenOf (opcode 2))) bs at s
 
 -- a step, a path and a request, as parts of the lent bytes, stand for what is asked
 abbrev pub step_of : LentStep → Step

@@ -1,6 +1,6 @@
 // Requests read from lent bytes as parts of them, with the place where there is none.
 ghost use Rattle.request.specs.Grammar.{after_request};
-ghost use Rattle.request.specs.Reading.{StepKindAt, KindAt, StepAt, PathAt, RestAt, RequestAt, ReadsBack, Reaches, RulesIn};
+ghost use Rattle.request.specs.Reading.{step_number, kind_number, KindAt, StepAt, PathAt, RestAt, RequestAt, ReadsBack, Reaches, RulesIn};
 
 use cbor::reading::Stop;
 use sequence::reading::{Parsed, read_number, read_opcode, read_string};
@@ -54,7 +54,7 @@ pub enum Extent {
 }
 
 fn read_step_kind(bytes: &[u8], at: usize) -> Result<Parsed<StepKind>, Stop>
-    ensures { StepKindAt bytes.now at result }
+    ensures { KindAt step_number bytes.now at result }
 {
     let number = read_opcode(bytes, at, 2)?;
     let value = match number.argument {
@@ -69,7 +69,7 @@ fn read_step_kind(bytes: &[u8], at: usize) -> Result<Parsed<StepKind>, Stop>
 }
 
 fn read_kind(bytes: &[u8], at: usize) -> Result<Parsed<Kind>, Stop>
-    ensures { KindAt bytes.now at result }
+    ensures { KindAt kind_number bytes.now at result }
 {
     let number = read_opcode(bytes, at, 2)?;
     let value = match number.argument {
