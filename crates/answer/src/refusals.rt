@@ -24,7 +24,7 @@ pub const MOST_STEPS: u64 = 32;
 
 pub use cbor::TOO_MANY_BYTES;
 
-fn if_offered<'a>(request: Request<'a>, offered: Offered) -> Option<Request<'a>>
+fn if_offered(request: Request<'_>, offered: Offered) -> Option<Request<'_>>
     ensures { Passes (λ a. offers offered a ≡ false) request.entry result }
 {
     let is_offered = match request {

@@ -84,7 +84,7 @@ fn read_kind(bytes: &[u8], at: usize) -> Result<Parsed<Kind>, Stop>
 }
 
 // The step that stands at a place.
-pub fn read_step<'a>(bytes: &'a [u8], at: usize) -> Result<Parsed<Step<'a>>, Stop>
+pub fn read_step(bytes: &[u8], at: usize) -> Result<Parsed<Step<'_>>, Stop>
     ensures { StepAt bytes.now at result }
 {
     let kind = read_step_kind(bytes, at)?;
@@ -105,7 +105,7 @@ pub fn read_step<'a>(bytes: &'a [u8], at: usize) -> Result<Parsed<Step<'a>>, Sto
 }
 
 // A path: how many steps, and the steps.
-fn read_path<'a>(bytes: &'a [u8], at: usize) -> Result<Parsed<Path<'a>>, Stop>
+fn read_path(bytes: &[u8], at: usize) -> Result<Parsed<Path<'_>>, Stop>
     ensures { PathAt bytes.now at result }
 {
     let count = read_number(bytes, at)?;
@@ -120,13 +120,13 @@ fn read_path<'a>(bytes: &'a [u8], at: usize) -> Result<Parsed<Path<'a>>, Stop>
     Ok(Parsed { value, next })
 }
 
-fn read_check<'a>(bytes: &'a [u8], at: usize) -> Result<Parsed<Request<'a>>, Stop>
+fn read_check(bytes: &[u8], at: usize) -> Result<Parsed<Request<'_>>, Stop>
     ensures { RestAt 0 (after_request 0) bytes.now at result }
 {
     Ok(read_string(bytes, at)?.map(Request::Check))
 }
 
-fn read_find<'a>(bytes: &'a [u8], at: usize) -> Result<Parsed<Request<'a>>, Stop>
+fn read_find(bytes: &[u8], at: usize) -> Result<Parsed<Request<'_>>, Stop>
     ensures { RestAt 1 (after_request 1) bytes.now at result }
 {
     let path = read_path(bytes, at)?;
@@ -137,7 +137,7 @@ fn read_find<'a>(bytes: &'a [u8], at: usize) -> Result<Parsed<Request<'a>>, Stop
     })
 }
 
-fn read_fit<'a>(bytes: &'a [u8], at: usize) -> Result<Parsed<Request<'a>>, Stop>
+fn read_fit(bytes: &[u8], at: usize) -> Result<Parsed<Request<'_>>, Stop>
     ensures { RestAt 2 (after_request 2) bytes.now at result }
 {
     let rules = read_string(bytes, at)?;
@@ -150,7 +150,7 @@ fn read_fit<'a>(bytes: &'a [u8], at: usize) -> Result<Parsed<Request<'a>>, Stop>
 }
 
 // The request that stands at the beginning of some bytes, or where they cease to begin one. Rules are not looked into.
-pub fn read_request<'a>(bytes: &'a [u8]) -> Result<Parsed<Request<'a>>, Stop>
+pub fn read_request(bytes: &[u8]) -> Result<Parsed<Request<'_>>, Stop>
     ensures right { RequestAt bytes.now result }
     ensures back { ReadsBack bytes.now result }
 {
@@ -173,7 +173,7 @@ pub fn extent_of(bytes: &[u8]) -> Extent
 }
 
 // The rules of a request to fit, as soon as all of them are there.
-pub fn rules_in<'a>(bytes: &'a [u8]) -> Option<&'a [u8]>
+pub fn rules_in(bytes: &[u8]) -> Option<&[u8]>
     ensures { RulesIn bytes.now result }
 {
     let kind = read_kind(bytes, 0).ok()?;
