@@ -126,6 +126,7 @@ fn read_check(bytes: &[u8], at: usize) -> Result<Parsed<Request<'_>>, Stop>
     Ok(read_string(bytes, at)?.map(Request::Check))
 }
 
+// By fields and not by `map`: of a closure that captures the path, with `move` or without, no contract is inferred.
 fn read_find(bytes: &[u8], at: usize) -> Result<Parsed<Request<'_>>, Stop>
     ensures { RestAt 1 (after_request 1) bytes.now at result }
 {
