@@ -6,7 +6,7 @@ use Rattle.cbor.specs.Prefix.{Any, Stops}
 use Rattle.cbor.specs.Reading.{Stopped}
 use Rattle.cbor.proofs.Places.{part_length}
 use Rattle.std.proofs.lemmas.List.{take_at}
-use Rattle.sequence.specs.Token.{Token, num, str, spell, Word, opcode, number, string, TokenOf}
+use Rattle.sequence.specs.Token.{Token, num, str, spell, opcode, number, string, TokenOf}
 use Rattle.sequence.specs.Grammar.{next, Completes}
 use Rattle.sequence.specs.Reading.{TokenAt, SpelledAt, PendingStops}
 use Rattle.sequence.proofs.Grammars.{spelled_one, spelled_append, spelled_two, stop_first, stop_later, stop_after, none_stands, same_token}
@@ -18,8 +18,8 @@ use Rattle.request.specs.declared.reading.Kind.TheVariants.{Check as KindCheck, 
 use Rattle.sequence.specs.declared.reading.Parsed.{Parsed}
 use Rattle.request.specs.Asked.{Step, Asked, check, find, fit, step_tokens, path_tokens, write, WritableStep, WritablePath}
 use Rattle.request.specs.Grammar.{Sort, a_request, a_path, a_step, a_string, many, shape, after_request, after_step, requests}
-use Rattle.request.specs.Reading.{kind_number, Means, StepAt, PathAt, RestAt, RequestAt, ReadsBack, RulesThere}
-use Rattle.request.proofs.Requests.{completable, step_takes, path_all_takes, stops_request, one_way}
+use Rattle.request.specs.Reading.{kind_number, Means, StepAt, PathAt, CountedPathAt, RestAt, RequestAt, ReadsBack, RulesThere}
+use Rattle.request.proofs.Requests.{completable, step_takes, path_takes, stops_request, one_way}
 
 -- what is handed on where reading stops
 pub handed_on : {T : Type 0} (P : Result T Stop → Type 0) (r : Result T Stop) (s : Stop) → IsErrAnd r (λ x. x ≡ s) → P (Err s) → P r
@@ -42,47 +42,40 @@ step_stops bs at mid n s stop e t h = λ ss. stop_later requests a_step ss (num 
 
 -- PATHS
 
--- so many steps up to a place
-abbrev pub StepsAt : List ℕ → ℕ → ℕ → Result ℕ Stop → Type 0
-StepsAt bs at n (Ok end) = (ps : List Step) × (length ps ≡ n) × WritablePath ps × SpelledAt (path_tokens ps) bs at end
-StepsAt bs at n (Err s) = (ss : List Sort) → PendingStops requests (many n a_step ++ ss) bs at s
-
-pub steps_none : (bs : List ℕ) (at : ℕ) → at ≤ length bs → StepsAt bs at 0 (Ok at)
+pub path_none : (bs : List ℕ) (at : ℕ) → at ≤ length bs → PathAt bs at 0 (Ok at)
 unfolding spell path_tokens WritablePath
-steps_none bs at h = ([], refl, tt, (omega arith, h, ap (λ n. take n (drop at bs)) (let z : at - at ≡ 0 = omega arith in z)))
+path_none bs at h = ([], refl, tt, (omega arith, h, ap (λ n. take n (drop at bs)) (let z : at - at ≡ 0 = omega arith in z)))
 
-one_more : (bs : List ℕ) (at mid n : ℕ) (p : Step) (r : Result ℕ Stop) → WritableStep p → SpelledAt (step_tokens p) bs at mid → StepsAt bs mid n r → StepsAt bs at (suc n) r
+one_more : (bs : List ℕ) (at mid n : ℕ) (p : Step) (r : Result ℕ Stop) → WritableStep p → SpelledAt (step_tokens p) bs at mid → PathAt bs mid n r → PathAt bs at (suc n) r
 unfolding path_tokens WritablePath many
 one_more bs at mid n p (Ok end) w s (ps, l, v, t) = (p ∷ ps, ap suc l, (w, v), spelled_append (step_tokens p) (path_tokens ps) bs at mid end s t)
 one_more bs at mid n p (Err stop) w s f = λ ss. stop_after requests (a_step ∷ (many n a_step ++ ss)) (many n a_step ++ ss) (step_tokens p) bs at mid stop (step_takes p (many n a_step ++ ss) w) s (f ss)
 
 -- after `k` of `count` steps, one more
-pub steps_more : (bs : List ℕ) (at mid count k : ℕ) (p : Step) (r : Result ℕ Stop) → k < count → WritableStep p → SpelledAt (step_tokens p) bs at mid → StepsAt bs mid (count - (k + 1)) r → StepsAt bs at (count - k) r
-steps_more bs at mid count k p r h w s f = subst (λ n. StepsAt bs at n r) (let z : suc (count - (k + 1)) ≡ count - k = omega arith in z) (one_more bs at mid (count - (k + 1)) p r w s f)
+pub path_more : (bs : List ℕ) (at mid count k : ℕ) (p : Step) (r : Result ℕ Stop) → k < count → WritableStep p → SpelledAt (step_tokens p) bs at mid → PathAt bs mid (count - (k + 1)) r → PathAt bs at (count - k) r
+path_more bs at mid count k p r h w s f = subst (λ n. PathAt bs at n r) (let z : suc (count - (k + 1)) ≡ count - k = omega arith in z) (one_more bs at mid (count - (k + 1)) p r w s f)
 
-pub steps_stop : (bs : List ℕ) (at count k : ℕ) (stop : Stop) → k < count → ((ss : List Sort) → PendingStops requests (a_step ∷ ss) bs at stop) → StepsAt bs at (count - k) (Err stop)
+pub path_stop : (bs : List ℕ) (at count k : ℕ) (stop : Stop) → k < count → ((ss : List Sort) → PendingStops requests (a_step ∷ ss) bs at stop) → PathAt bs at (count - k) (Err stop)
 unfolding many
-steps_stop bs at count k stop h f = subst (λ n. StepsAt bs at n (Err stop)) (let z : suc (count - (k + 1)) ≡ count - k = omega arith in z) (λ ss. f (many (count - (k + 1)) a_step ++ ss))
+path_stop bs at count k stop h f = subst (λ n. PathAt bs at n (Err stop)) (let z : suc (count - (k + 1)) ≡ count - k = omega arith in z) (λ ss. f (many (count - (k + 1)) a_step ++ ss))
 
-pub path_there : (bs : List ℕ) (at mid end n : ℕ) → TokenAt number (num n) bs at mid → StepsAt bs mid n (Ok end) → (ps : List Step) × ((length ps ≡ n) × (take (end - mid) (drop mid bs) ≡ spell (path_tokens ps))) × Word n × WritablePath ps × SpelledAt (num n ∷ path_tokens ps) bs at end
-path_there bs at mid end n c (ps, l, w, p) = (ps, (l, p.2), c.0.2.1, w, spelled_append (num n ∷ []) (path_tokens ps) bs at mid end (spelled_one number (num n) bs at mid c) p)
-
-pub path_stops : (bs : List ℕ) (at mid n : ℕ) (stop : Stop) → TokenAt number (num n) bs at mid → StepsAt bs mid n (Err stop) → PathAt bs at (Err stop)
-path_stops bs at mid n stop c h = λ ss. stop_later requests a_path ss (num n) bs at mid stop c.0 (h ss)
+pub counted_path_stops : (bs : List ℕ) (at mid n : ℕ) (stop : Stop) → TokenAt number (num n) bs at mid → PathAt bs mid n (Err stop) → CountedPathAt bs at (Err stop)
+counted_path_stops bs at mid n stop c h = λ ss. stop_later requests a_path ss (num n) bs at mid stop c.0 (h ss)
 
 -- REQUESTS
 
 pub check_there : (bs : List ℕ) (at end : ℕ) (item : Bor (List ℕ)) → TokenAt string (str item.now) bs at end → RestAt 0 (after_request 0) bs at (Ok (record { value = Check item; next = end }))
 check_there bs at end item t = (check item.now, str item.now ∷ [], refl, t.0.2.1, refl, spelled_one string (str item.now) bs at end t)
 
-pub find_there : (bs : List ℕ) (at mid end : ℕ) (path : Path) (item : Bor (List ℕ)) → PathAt bs at (Ok (record { value = path; next = mid })) → TokenAt string (str item.now) bs mid end → RestAt 1 (after_request 1) bs at (Ok (record { value = Find path item; next = end }))
-find_there bs at mid end path item (ps, (l, e), n, w, p) t =
-    let ts = num path.count ∷ path_tokens ps in
-    (find ps item.now, ts ++ str item.now ∷ [], (ps, (l, e), refl), (w, rw l n, t.0.2.1), ap (λ k. num 1 ∷ num k ∷ (path_tokens ps ++ str item.now ∷ [])) l, spelled_append ts (str item.now ∷ []) bs at mid end p (spelled_one string (str item.now) bs mid end t))
+pub find_there : (bs : List ℕ) (at mid end : ℕ) (path : Path) (item : Bor (List ℕ)) → CountedPathAt bs at (Ok (record { value = path; next = mid })) → TokenAt string (str item.now) bs mid end → RestAt 1 (after_request 1) bs at (Ok (record { value = Find path item; next = end }))
+find_there bs at mid end path item (from, c, (ps, l, w, p), e) t =
+    let ts = path_tokens ps ++ str item.now ∷ [] in
+    (find ps item.now, num path.count ∷ ts, (ps, (l, e ∙ p.2), refl), (w, (let z = c.0.2.1 in omega arith), t.0.2.1), ap (λ k. num 1 ∷ num k ∷ ts) l, spelled_append (num path.count ∷ []) ts bs at from end (spelled_one number (num path.count) bs at from c) (spelled_append (path_tokens ps) (str item.now ∷ []) bs from mid end p (spelled_one string (str item.now) bs mid end t)))
 
-pub find_item_stops : (bs : List ℕ) (at mid : ℕ) (path : Path) (stop : Stop) → PathAt bs at (Ok (record { value = path; next = mid })) → PendingStops requests (a_string ∷ []) bs mid stop → PendingStops requests (after_request 1) bs at stop
-find_item_stops bs at mid path stop (ps, (l, e), n, w, p) s =
-    stop_after requests (a_path ∷ a_string ∷ []) (a_string ∷ []) (num path.count ∷ path_tokens ps) bs at mid stop (path_all_takes path.count ps (a_string ∷ []) l n w) p s
+pub find_item_stops : (bs : List ℕ) (at mid : ℕ) (path : Path) (stop : Stop) → CountedPathAt bs at (Ok (record { value = path; next = mid })) → PendingStops requests (a_string ∷ []) bs mid stop → PendingStops requests (after_request 1) bs at stop
+find_item_stops bs at mid path stop (from, c, (ps, l, w, p), e) s =
+    stop_later requests a_path (a_string ∷ []) (num path.count) bs at from stop c.0
+    (subst (λ k. PendingStops requests (many k a_step ++ a_string ∷ []) bs from stop) l (stop_after requests (many (length ps) a_step ++ a_string ∷ []) (a_string ∷ []) (path_tokens ps) bs from mid stop (path_takes ps (a_string ∷ []) w) p s))
 
 pub fit_there : (bs : List ℕ) (at mid from end n : ℕ) (rules item : Bor (List ℕ)) → TokenAt string (str rules.now) bs at mid → TokenAt number (num n) bs mid from → TokenAt string (str item.now) bs from end → RestAt 2 (after_request 2) bs at (Ok (record { value = Fit rules n item; next = end }))
 fit_there bs at mid from end n rules item r c t =

@@ -1,10 +1,10 @@
 -- What reading a request tells.
-use Rattle.std.specs.Prelude.{◌≡◌, ℕ, ◌<◌, ◌≤◌, List, [], ◌∷◌, ◌++◌, length, take, Some, None, Ok, Err, Option, Result}
+use Rattle.std.specs.Prelude.{◌≡◌, ℕ, ◌-◌, ◌<◌, ◌≤◌, List, [], ◌∷◌, ◌++◌, length, take, drop, Some, None, Ok, Err, Option, Result}
 use Rattle.std.specs.Borrow.{Bor}
 use Rattle.cbor.specs.declared.reading.Stop.{Stop}
 use Rattle.cbor.specs.Prefix.{Any, Stops}
 use Rattle.cbor.specs.Reading.{Stopped}
-use Rattle.sequence.specs.Token.{Token, num, str, spell, Word, ByteString, opcode, TokenOf}
+use Rattle.sequence.specs.Token.{Token, num, str, spell, ByteString, opcode, number, TokenOf}
 use Rattle.sequence.specs.Reading.{TokenAt, SpelledAt, PendingStops}
 use Rattle.request.specs.declared.reading.Step.{Step as LentStep}
 use Rattle.request.specs.declared.reading.Step.TheVariants.{Index, Key, Content}
@@ -19,7 +19,7 @@ use Rattle.request.specs.declared.reading.Kind.TheVariants.{Check as KindCheck, 
 use Rattle.request.specs.declared.reading.Extent.{Extent}
 use Rattle.request.specs.declared.reading.Extent.TheVariants.{Complete, Incomplete, Wrong}
 use Rattle.request.specs.Asked.{Step, index, key, content, Asked, check, find, fit, step_tokens, path_tokens, tokens, write, WritableStep, WritablePath, Writable, IsRequest}
-use Rattle.request.specs.Grammar.{Sort, a_step, a_path, requests}
+use Rattle.request.specs.Grammar.{Sort, a_path, a_step, many, requests}
 
 -- the kinds of steps and of requests, by their numbers
 abbrev pub step_number : StepKind → ℕ
@@ -33,8 +33,8 @@ kind_number KindFind = 1
 kind_number KindFit = 2
 
 abbrev pub KindAt : {K : Type 0} → (K → ℕ) → List ℕ → ℕ → Result (Parsed K) Stop → Type 0
-KindAt number bs at (Ok x) = TokenAt (opcode 2) (num (number x.value)) bs at x.next
-KindAt number bs at (Err s) = Stopped (Any (TokenOf (opcode 2))) bs at s
+KindAt number_of bs at (Ok x) = TokenAt (opcode 2) (num (number_of x.value)) bs at x.next
+KindAt number_of bs at (Err s) = Stopped (Any (TokenOf (opcode 2))) bs at s
 
 -- a step, a path and a request, as parts of the lent bytes, stand for what is asked
 abbrev pub step_of : LentStep → Step
@@ -54,10 +54,14 @@ abbrev pub StepAt : List ℕ → ℕ → Result (Parsed LentStep) Stop → Type 
 StepAt bs at (Ok x) = WritableStep (step_of x.value) × SpelledAt (step_tokens (step_of x.value)) bs at x.next
 StepAt bs at (Err s) = (ss : List Sort) → PendingStops requests (a_step ∷ ss) bs at s
 
--- a path, with how many steps it has
-abbrev pub PathAt : List ℕ → ℕ → Result (Parsed Path) Stop → Type 0
-PathAt bs at (Ok x) = (ps : List Step) × PathOf x.value ps × Word x.value.count × WritablePath ps × SpelledAt (num x.value.count ∷ path_tokens ps) bs at x.next
-PathAt bs at (Err s) = (ss : List Sort) → PendingStops requests (a_path ∷ ss) bs at s
+abbrev pub PathAt : List ℕ → ℕ → ℕ → Result ℕ Stop → Type 0
+PathAt bs at n (Ok end) = (ps : List Step) × (length ps ≡ n) × WritablePath ps × SpelledAt (path_tokens ps) bs at end
+PathAt bs at n (Err s) = (ss : List Sort) → PendingStops requests (many n a_step ++ ss) bs at s
+
+-- how many steps, and so many steps
+abbrev pub CountedPathAt : List ℕ → ℕ → Result (Parsed Path) Stop → Type 0
+CountedPathAt bs at (Ok x) = (from : ℕ) × TokenAt number (num x.value.count) bs at from × PathAt bs from x.value.count (Ok x.next) × (x.value.steps.now ≡ take (x.next - from) (drop from bs))
+CountedPathAt bs at (Err s) = (ss : List Sort) → PendingStops requests (a_path ∷ ss) bs at s
 
 -- what stands after a request's first token
 abbrev pub RestAt : ℕ → List Sort → List ℕ → ℕ → Result (Parsed Request) Stop → Type 0

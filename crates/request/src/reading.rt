@@ -1,6 +1,6 @@
 // Requests read from lent bytes as parts of them, with the place where there is none.
 ghost use Rattle.request.specs.Grammar.{after_request};
-ghost use Rattle.request.specs.Reading.{step_number, kind_number, KindAt, StepAt, PathAt, RestAt, RequestAt, ReadsBack, Reaches, RulesIn};
+ghost use Rattle.request.specs.Reading.{step_number, kind_number, KindAt, StepAt, CountedPathAt, RestAt, RequestAt, ReadsBack, Reaches, RulesIn};
 
 use cbor::reading::Stop;
 use sequence::reading::{Parsed, read_number, read_opcode, read_string};
@@ -106,7 +106,7 @@ pub fn read_step(bytes: &[u8], at: usize) -> Result<Parsed<Step<'_>>, Stop>
 
 // A path: how many steps, and the steps.
 fn read_path(bytes: &[u8], at: usize) -> Result<Parsed<Path<'_>>, Stop>
-    ensures { PathAt bytes.now at result }
+    ensures { CountedPathAt bytes.now at result }
 {
     let count = read_number(bytes, at)?;
     let mut next = count.next;
