@@ -2,8 +2,8 @@
 ghost use Rattle.std.specs.Prelude.{◌≡◌, ◌+◌, ◌*◌, ◌≤◌, length, take, drop};
 ghost use Rattle.schema.specs.Table.{RowOf, RowWritten, EntryAt, Seen};
 
-use crate::entries::{Entry, Form, entry_of};
-use crate::nodes::{Field, Group, Node, Schema};
+use crate::entries::{Entry, Form, NodeKind};
+use crate::nodes::Node;
 
 // How many numbers a row takes: the opcode, its form, and two numbers, or where a string stands and how long it is.
 pub const ROW: usize = 4;
@@ -44,7 +44,7 @@ pub(crate) fn write_row(table: &mut [u64], index: usize, node: Node<'_>, next: u
     requires { 4 * index + 4 ≤ length table.old }
     ensures { RowWritten table.old index node.entry next table.new }
 {
-    let row = row_of(entry_of(node), next);
+    let row = row_of(Entry::from(node), next);
     table[ROW * index] = row.opcode;
     table[ROW * index + 1] = row.form;
     table[ROW * index + 2] = row.first;
@@ -79,49 +79,9 @@ fn entry_at<'a>(bytes: &'a [u8], table: &[u64], index: usize) -> Option<Entry<'a
     })
 }
 
-// The schema at a row of a table; a literal is a part of the bytes of the rules.
-pub fn schema_at<'a>(bytes: &'a [u8], table: &[u64], index: usize) -> Option<Schema<'a>>
-    ensures { Seen Node.OfSchema bytes.now table.now index result }
+// The node at a row of a table, as what it is wanted as; a literal or a key is a part of the bytes of the rules.
+pub fn node_at<'a, K: NodeKind<'a>>(bytes: &'a [u8], table: &[u64], index: usize) -> Option<K>
+    ensures { Seen K.node bytes.now table.now index result }
 {
-    let entry = entry_at(bytes, table, index)?;
-    match (entry.opcode, entry.form) {
-        (0, Form::Bare) => Some(Schema::Any),
-        (1, Form::Numbers(low, high)) => Some(Schema::Unsigned(low, high)),
-        (2, Form::Numbers(low, high)) => Some(Schema::Negative(low, high)),
-        (3, Form::Numbers(low, high)) => Some(Schema::ByteLength(low, high)),
-        (4, Form::Numbers(low, high)) => Some(Schema::TextLength(low, high)),
-        (5, Form::String(item)) => Some(Schema::Literal(item)),
-        (6, Form::Bare) => Some(Schema::Choice),
-        (7, Form::Bare) => Some(Schema::Array),
-        (8, Form::Number(count)) => Some(Schema::Map(count)),
-        (9, Form::Number(number)) => Some(Schema::Tag(number)),
-        (10, Form::Number(number)) => Some(Schema::Rule(number)),
-        _ => None,
-    }
-}
-
-pub fn group_at(bytes: &[u8], table: &[u64], index: usize) -> Option<Group>
-    ensures { Seen Node.OfGroup bytes.now table.now index result }
-{
-    let entry = entry_at(bytes, table, index)?;
-    match (entry.opcode, entry.form) {
-        (0, Form::Bare) => Some(Group::Empty),
-        (1, Form::Bare) => Some(Group::One),
-        (2, Form::Bare) => Some(Group::Sequence),
-        (3, Form::Bare) => Some(Group::FirstOf),
-        (4, Form::Numbers(low, high)) => Some(Group::Repeat(low, high)),
-        _ => None,
-    }
-}
-
-pub fn field_at<'a>(bytes: &'a [u8], table: &[u64], index: usize) -> Option<Field<'a>>
-    ensures { Seen Node.OfField bytes.now table.now index result }
-{
-    let entry = entry_at(bytes, table, index)?;
-    match (entry.opcode, entry.form) {
-        (0, Form::String(key)) => Some(Field::Required(key)),
-        (1, Form::String(key)) => Some(Field::Optional(key)),
-        (2, Form::Bare) => Some(Field::Others),
-        _ => None,
-    }
+    K::of_entry(entry_at(bytes, table, index)?)
 }

@@ -5,7 +5,7 @@ ghost use Rattle.sequence.specs.Token.{spell};
 ghost use Rattle.schema.specs.Nodes.{own_tokens};
 ghost use Rattle.schema.specs.Entries.{form_tokens};
 
-use crate::entries::{Entry, Form, entry_of};
+use crate::entries::{Entry, Form};
 use crate::nodes::Node;
 use sequence::writing::{Token, write_tokens};
 
@@ -34,5 +34,5 @@ fn write_entry(out: &mut [u8], at: usize, entry: Entry<'_>) -> Option<usize>
 pub fn write_node(out: &mut [u8], at: usize, node: Node<'_>) -> Option<usize>
     ensures { Writes out.old at (spell (own_tokens node.entry)) out.new result }
 {
-    write_entry(out, at, entry_of(node))
+    write_entry(out, at, Entry::from(node))
 }
