@@ -1,6 +1,7 @@
 // The table of rules in lent numbers: a row for each node, in the order of their bytes.
 ghost use Rattle.std.specs.Prelude.{◌≡◌, ◌+◌, ◌*◌, ◌≤◌, length, take, drop};
-ghost use Rattle.schema.specs.Table.{RowOf, RowWritten, EntryAt, Seen};
+ghost use Rattle.schema.specs.Entries.{form_tokens};
+ghost use Rattle.schema.specs.Table.{row_at, RowOf, RowWritten, EntryAt, Seen};
 
 use crate::entries::{Entry, Form, NodeKind};
 use crate::nodes::Node;
@@ -8,35 +9,27 @@ use crate::nodes::Node;
 // How many numbers a row takes: the opcode, its form, and two numbers, or where a string stands and how long it is.
 pub const ROW: usize = 4;
 
-#[derive(Clone, Copy)]
-struct Row {
-    opcode: u64,
-    form: u64,
-    first: u64,
-    second: u64,
-}
+// What the second number of a row says of the third and the fourth.
+const BARE: u64 = 0;
+
+const NUMBER: u64 = 1;
+
+const NUMBERS: u64 = 2;
+
+const STRING: u64 = 3;
 
 // The row of an entry whose numbers and string end at `next`.
-fn row_of(entry: Entry<'_>, next: usize) -> Row
+fn row_of(entry: Entry<'_>, next: usize) -> [u64; ROW]
     ensures { RowOf entry.entry next result }
 {
-    let (form, first, second) = match entry.form {
-        Form::Bare => (0, 0, 0),
-        Form::Number(number) => (1, number, 0),
-        Form::Numbers(first, second) => (2, first, second),
+    match entry.form {
+        Form::Bare => [entry.opcode, BARE, 0, 0],
+        Form::Number(number) => [entry.opcode, NUMBER, number, 0],
+        Form::Numbers(first, second) => [entry.opcode, NUMBERS, first, second],
         Form::String(content) => {
-            (
-                3,
-                next.saturating_sub(content.len()) as u64,
-                content.len() as u64,
-            )
+            let from = next.saturating_sub(content.len());
+            [entry.opcode, STRING, from as u64, content.len() as u64]
         }
-    };
-    Row {
-        opcode: entry.opcode,
-        form,
-        first,
-        second,
     }
 }
 
@@ -45,38 +38,36 @@ pub(crate) fn write_row(table: &mut [u64], index: usize, node: Node<'_>, next: u
     ensures { RowWritten table.old index node.entry next table.new }
 {
     let row = row_of(Entry::from(node), next);
-    table[ROW * index] = row.opcode;
-    table[ROW * index + 1] = row.form;
-    table[ROW * index + 2] = row.first;
-    table[ROW * index + 3] = row.second;
+    table[ROW * index..ROW * index + ROW].copy_from_slice(&row);
 }
 
 // As much of a part as there is.
 fn part(bytes: &[u8], from: usize, size: usize) -> &[u8]
     ensures { result.now ≡ take size (drop from bytes.now) }
 {
-    let rest = &bytes[from.min(bytes.len())..];
-    &rest[..size.min(rest.len())]
+    let rest = bytes.get(from..).unwrap_or(&[]);
+    rest.get(..size).unwrap_or(rest)
+}
+
+// The entry of a row; a string is a part of the bytes.
+fn entry_of(bytes: &[u8], row: [u64; ROW]) -> Entry<'_>
+    ensures { form_tokens result.opcode result.form ≡ row_at bytes.now row 0 }
+{
+    let [opcode, form, first, second] = row;
+    let form = match form {
+        BARE => Form::Bare,
+        NUMBER => Form::Number(first),
+        NUMBERS => Form::Numbers(first, second),
+        _ => Form::String(part(bytes, first as usize, second as usize)),
+    };
+    Entry { opcode, form }
 }
 
 fn entry_at<'a>(bytes: &'a [u8], table: &[u64], index: usize) -> Option<Entry<'a>>
     ensures { EntryAt bytes.now table.now index result }
 {
-    if index >= table.len() / ROW {
-        return None;
-    }
-    let first = table[ROW * index + 2];
-    let second = table[ROW * index + 3];
-    let form = match table[ROW * index + 1] {
-        0 => Form::Bare,
-        1 => Form::Number(first),
-        2 => Form::Numbers(first, second),
-        _ => Form::String(part(bytes, first as usize, second as usize)),
-    };
-    Some(Entry {
-        opcode: table[ROW * index],
-        form,
-    })
+    let (rows, _) = table.as_chunks::<ROW>();
+    Some(entry_of(bytes, *rows.get(index)?))
 }
 
 // The node at a row of a table, as what it is wanted as; a literal or a key is a part of the bytes of the rules.
