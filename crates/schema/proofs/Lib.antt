@@ -2,5 +2,5 @@ pub mod Trees
 pub mod Parts
 pub mod Places
 pub mod Stacks
-pub mod Progresses
 pub mod Rows
+pub mod Readers

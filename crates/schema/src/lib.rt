@@ -3,7 +3,9 @@
 #![tactic(auto)]
 
 mod entries;
+mod inner;
 pub mod nodes;
 pub mod reading;
+mod stack;
 pub mod table;
 pub mod writing;

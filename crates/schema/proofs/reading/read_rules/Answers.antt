@@ -1,6 +1,6 @@
 use Rattle.std.proofs.Common.{length, inl, inr, arith}
 use Rattle.schema.specs.Verdict.{Enough}
-use Rattle.schema.proofs.Progresses.{told_from, reads_back}
+use Rattle.schema.proofs.Readers.{told_from, reads_back}
 use Rattle.schema.proofs.reading.read_rules.Goals as goal
 
 pub returns-then-stack-lt-STACK : goal.returns-then-stack-lt-STACK
