@@ -1,5 +1,5 @@
 -- What reading rules tells.
-use Rattle.std.specs.Prelude.{◌≡◌, ℕ, suc, ◌<◌, ◌≤◌, ◌⊎◌, List, [], ◌∷◌, ◌++◌, length, take, Ok, Err, Result}
+use Rattle.std.specs.Prelude.{◌≡◌, ℕ, suc, ◌<◌, ◌≤◌, ◌⊎◌, List, [], ◌∷◌, ◌++◌, length, take, Ok, Err, Result, codes, decimal}
 use Rattle.cbor.specs.Prefix.{Begins, Any}
 use Rattle.sequence.specs.Token.{Token, num}
 use Rattle.sequence.specs.Grammar.{Takes}
@@ -14,6 +14,12 @@ use Rattle.schema.specs.Grammar.{Sort, the_rules, many, grammar, parts_in}
 use Rattle.schema.specs.Nodes.{sort_of}
 use Rattle.schema.specs.Reading.{Whole}
 use Rattle.schema.specs.Table.{rows}
+
+-- what is printed
+abbrev pub reason : NoRules → List ℕ
+reason TooLittleLent = codes "too little is lent"
+reason TooLarge = codes "too large"
+reason (Wrong place) = codes "wrong at " ++ decimal place
 
 -- the table's rows say what rules are written in
 abbrev pub Tabled : List Schema → List ℕ → List ℕ → ℕ → Type 0

@@ -1,9 +1,9 @@
 // Rules read from lent bytes, over a stack of what is pending in lent numbers, with the place where there are none.
-ghost use Rattle.std.specs.Prelude.{◌≡◌, ◌≤◌, List, ◌∷◌, length};
+ghost use Rattle.std.specs.Prelude.{◌≡◌, ◌≤◌, List, ◌∷◌, length, Some};
 ghost use Rattle.schema.specs.Grammar.{Sort as PendingSort};
 ghost use Rattle.schema.specs.Nodes.{sort_of};
 ghost use Rattle.schema.specs.Reading.{NodeAt, Whole};
-ghost use Rattle.schema.specs.Verdict.{Stands, Advances, Enough, RulesAt, RulesTold, ReadsBack};
+ghost use Rattle.schema.specs.Verdict.{reason, Stands, Advances, Enough, RulesAt, RulesTold, ReadsBack};
 ghost use Rattle.schema.specs.declared.reading.NoRules.TheVariants.{Wrong};
 
 use crate::nodes::{NextNode, Run, Sort, read_field, read_group, read_schema};
@@ -11,6 +11,8 @@ use crate::stack::Stack;
 use crate::table::write_row;
 use cbor::reading::Stop;
 use sequence::reading::read_number;
+use std::error::Error;
+use std::fmt;
 
 // Rules of more parts are not looked at.
 pub const MOST_PARTS: usize = 8192;
@@ -22,19 +24,33 @@ pub const STACK: usize = 16388;
 pub const TABLE: usize = 32768;
 
 // Rules that were read: how many nodes the table has, and how many parts they are.
-#[derive(Clone, Copy)]
+#[derive(Clone, Copy, Debug, PartialEq, Eq)]
 pub struct Rules {
     pub nodes: usize,
     pub parts: usize,
 }
 
 // Why bytes are no rules to look at.
-#[derive(Clone, Copy)]
+#[derive(Clone, Copy, Debug, PartialEq, Eq)]
 pub enum NoRules {
     TooLittleLent,
     TooLarge,
     Wrong(usize),
 }
+
+impl fmt::Display for NoRules {
+    ghost output = { λ e. Some (reason e) };
+
+    fn fmt<W: fmt::Write>(&self, f: &mut fmt::Formatter<W>) -> fmt::Result {
+        match self {
+            NoRules::TooLittleLent => write!(f, "too little is lent"),
+            NoRules::TooLarge => write!(f, "too large"),
+            NoRules::Wrong(place) => write!(f, "wrong at {place}"),
+        }
+    }
+}
+
+impl Error for NoRules {}
 
 impl From<Stop> for NoRules {
     ghost from_gives = { λ s e. e ≡ Wrong s.place };
