@@ -3,4 +3,4 @@ pub mod Parts
 pub mod Places
 pub mod Stacks
 pub mod Rows
-pub mod Readers
+pub mod Progresses

@@ -5,7 +5,7 @@ use Rattle.sequence.specs.Token.{Token, num}
 use Rattle.sequence.specs.Grammar.{Takes}
 use Rattle.sequence.specs.Reading.{SpelledAt}
 use Rattle.schema.specs.declared.nodes.Run.{Run}
-use Rattle.schema.specs.declared.reading.Reader.{Reader}
+use Rattle.schema.specs.declared.reader.Reader.{Reader}
 use Rattle.schema.specs.declared.reading.NoRules.{NoRules}
 use Rattle.schema.specs.declared.reading.NoRules.TheVariants.{TooLittleLent, TooLarge, Wrong}
 use Rattle.schema.specs.declared.reading.Rules.{Rules}

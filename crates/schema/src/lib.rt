@@ -3,9 +3,10 @@
 #![tactic(auto)]
 
 mod entries;
-mod inner;
 pub mod nodes;
+mod reader;
 pub mod reading;
+mod sorts;
 mod stack;
 pub mod table;
 pub mod writing;

@@ -1,14 +1,11 @@
 // Rules read from lent bytes, over a stack of what is pending in lent numbers, with the place where there are none.
-ghost use Rattle.std.specs.Prelude.{◌≡◌, ◌≤◌, List, ◌∷◌, length, Some};
-ghost use Rattle.schema.specs.Grammar.{Sort as PendingSort};
-ghost use Rattle.schema.specs.Nodes.{sort_of};
-ghost use Rattle.schema.specs.Reading.{NodeAt, Whole};
-ghost use Rattle.schema.specs.Verdict.{reason, Stands, Advances, Enough, RulesAt, RulesTold, ReadsBack};
+ghost use Rattle.std.specs.Prelude.{◌≡◌, length, Some};
+ghost use Rattle.schema.specs.Verdict.{reason, Enough, RulesAt, RulesTold, ReadsBack};
 ghost use Rattle.schema.specs.declared.reading.NoRules.TheVariants.{Wrong};
 
-use crate::nodes::{NextNode, Run, Sort, read_field, read_group, read_schema};
+use crate::nodes::{Run, Sort};
+use crate::reader::Reader;
 use crate::stack::Stack;
-use crate::table::write_row;
 use cbor::reading::Stop;
 use sequence::reading::read_number;
 use std::error::Error;
@@ -60,48 +57,6 @@ impl From<Stop> for NoRules {
     }
 }
 
-// The bytes and the table, and how far reading has come: to which byte, after how many parts and nodes.
-#[derive(Drop)]
-struct Reader<'b, 't> {
-    bytes: &'b [u8],
-    table: &'t mut [u64],
-    at: usize,
-    parts: usize,
-    nodes: usize,
-}
-
-fn read_node<'a>(bytes: &'a [u8], at: usize, sort: Sort) -> Result<NextNode<'a>, Stop>
-    ensures { NodeAt (sort_of sort) bytes.now at result }
-{
-    match sort {
-        Sort::ARule | Sort::ASchema => read_schema(bytes, at),
-        Sort::AGroup => read_group(bytes, at),
-        Sort::AField => read_field(bytes, at),
-    }
-}
-
-impl Reader<'_, '_> {
-    // One node of a sort, which gives what is in it.
-    fn advance(&mut self, sort: Sort) -> Result<Run, NoRules>
-        requires room { 32768 ≤ length self.old.table.now }
-        requires listed { self.old.nodes ≤ self.old.parts }
-        ensures advances { (rest : List PendingSort) → Whole rest → Stands self.old (sort_of sort ∷ rest) → Advances self.old rest self.new result }
-        ensures same_length { length self.new.table.now ≡ length self.old.table.now }
-        ensures same_table { self.new.table.ghost_name ≡ self.old.table.ghost_name }
-    {
-        let read = read_node(self.bytes, self.at, sort)?;
-        let parts = self.parts.saturating_add(read.node.parts(sort));
-        if parts > MOST_PARTS {
-            return Err(NoRules::TooLarge);
-        }
-        write_row(self.table, self.nodes, read.node, read.next);
-        self.at = read.next;
-        self.parts = parts;
-        self.nodes += 1;
-        Ok(read.node.inner())
-    }
-}
-
 fn read_all(bytes: &[u8], stack: &mut [u64], table: &mut [u64]) -> Result<Rules, NoRules>
     requires { Enough (length stack.old) (length table.old) }
     ensures { RulesAt bytes.now table.new result }
@@ -135,6 +90,7 @@ fn read_all(bytes: &[u8], stack: &mut [u64], table: &mut [u64]) -> Result<Rules,
 }
 
 // The rules that some bytes are, as a table of their nodes, or why they are none to look at.
+#[tactic(auto, using(crate::proofs::Progresses::told_from, crate::proofs::Progresses::read_back))]
 pub fn read_rules(bytes: &[u8], stack: &mut [u64], table: &mut [u64]) -> Result<Rules, NoRules>
     ensures told { RulesTold (Enough (length stack.old) (length table.old)) bytes.now table.new result }
     ensures back { ReadsBack (Enough (length stack.old) (length table.old)) bytes.now table.new result }

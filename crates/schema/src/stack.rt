@@ -1,12 +1,13 @@
 // The stack of what is pending in lent numbers.
-ghost use Rattle.std.specs.Prelude.{◌≡◌, ◌+◌, ◌*◌, ◌≤◌, ◌++◌, length};
-ghost use Rattle.schema.specs.Grammar.{many};
-ghost use Rattle.schema.specs.Nodes.{sort_of};
-ghost use Rattle.schema.specs.Stacks.{number_sort, pending, Pops};
+ghost use Rattle.std.specs.Prelude.{◌≡◌, ◌+◌, ◌*◌, ◌<◌, ◌≤◌, ◌++◌, length};
+ghost use Rattle.schema.specs.declared.reading.TheConstants.{STACK};
 
 use crate::nodes::{Run, Sort};
 
 impl From<u64> for Sort {
+    ghost use Rattle.schema.specs.Nodes.{sort_of};
+    ghost use Rattle.schema.specs.Stacks.{number_sort};
+
     ghost from_gives = { λ n s. sort_of s ≡ number_sort n };
 
     fn from(number: u64) -> Sort {
@@ -20,6 +21,9 @@ impl From<u64> for Sort {
 }
 
 impl From<Sort> for u64 {
+    ghost use Rattle.schema.specs.Nodes.{sort_of};
+    ghost use Rattle.schema.specs.Stacks.{number_sort};
+
     ghost from_gives = { λ s n. number_sort n ≡ sort_of s };
 
     fn from(sort: Sort) -> u64 {
@@ -32,14 +36,20 @@ impl From<Sort> for u64 {
 pub(crate) struct Stack<'a> {
     pub(crate) numbers: &'a mut [u64],
     pub(crate) depth: usize,
+    ghost room: { STACK ≤ length numbers.now },
+    ghost deep: { 2 * depth ≤ STACK },
 }
 
 impl Stack<'_> {
+    ghost use Rattle.schema.specs.Grammar.{many};
+    ghost use Rattle.schema.specs.Nodes.{sort_of};
+    ghost use Rattle.schema.specs.Stacks.{pending, Pops};
+
+    #[tactic(auto, using(crate::proofs::Stacks::pushed))]
     pub(crate) fn push(&mut self, run: Run)
-        requires { 2 * self.old.depth + 2 ≤ length self.old.numbers.now }
+        requires { 2 * self.old.depth < STACK }
         ensures pushed { pending self.new.numbers.now self.new.depth ≡ many run.count (sort_of run.sort) ++ pending self.old.numbers.now self.old.depth }
         ensures depth { self.new.depth ≡ self.old.depth + 1 }
-        ensures same_length { length self.new.numbers.now ≡ length self.old.numbers.now }
     {
         self.numbers[2 * self.depth] = u64::from(run.sort);
         self.numbers[2 * self.depth + 1] = run.count;
@@ -47,11 +57,10 @@ impl Stack<'_> {
     }
 
     // Takes what is next, and the empty runs above it.
+    #[tactic(auto, using(crate::proofs::Stacks::taken_top, crate::proofs::Stacks::emptied_top), unfolding(crate::specs::Stacks::pending))]
     pub(crate) fn pop(&mut self) -> Option<Sort>
-        requires { 2 * self.old.depth ≤ length self.old.numbers.now }
         ensures popped { Pops (pending self.old.numbers.now self.old.depth) (pending self.new.numbers.now self.new.depth) result }
         ensures depth { self.new.depth ≤ self.old.depth }
-        ensures same_length { length self.new.numbers.now ≡ length self.old.numbers.now }
     {
         while self.depth > 0 {
             let top = self.depth - 1;

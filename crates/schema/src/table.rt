@@ -19,6 +19,7 @@ const NUMBERS: u64 = 2;
 const STRING: u64 = 3;
 
 // The row of an entry whose numbers and string end at `next`.
+#[tactic(auto, using(crate::proofs::Rows::string_row))]
 fn row_of(entry: Entry<'_>, next: usize) -> [u64; ROW]
     ensures { RowOf entry.entry next result }
 {
@@ -33,6 +34,7 @@ fn row_of(entry: Entry<'_>, next: usize) -> [u64; ROW]
     }
 }
 
+#[tactic(auto, using(crate::proofs::Rows::row_written, std::proofs::lemmas::Slice::overwrites))]
 pub(crate) fn write_row(table: &mut [u64], index: usize, node: Node<'_>, next: usize)
     requires { 4 * index + 4 ≤ length table.old }
     ensures { RowWritten table.old index node.entry next table.new }
@@ -63,6 +65,7 @@ fn entry_of(bytes: &[u8], row: [u64; ROW]) -> Entry<'_>
     Entry { opcode, form }
 }
 
+#[tactic(auto, using(crate::proofs::Rows::row_read))]
 fn entry_at<'a>(bytes: &'a [u8], table: &[u64], index: usize) -> Option<Entry<'a>>
     ensures { EntryAt bytes.now table.now index result }
 {

@@ -1,9 +1,8 @@
-use Rattle.std.proofs.Common.{◌∷◌, [], length, subst, sym, ap, ◌∙◌, refl, arith, rules}
-use Rattle.schema.specs.Nodes.{sort_of}
+use Rattle.std.proofs.Common.{[], length, subst, sym, ap, ◌∙◌, refl, arith, rules}
 use Rattle.schema.specs.Stacks.{pending}
 use Rattle.schema.specs.Verdict.{Refused, RulesAt, Stands}
 use Rattle.schema.specs.declared.reading.NoRules.TheVariants.{Wrong}
-use Rattle.schema.proofs.Readers.{whole_pending, refused, no_number, begun, trailing, whole}
+use Rattle.schema.proofs.Progresses.{whole_pending, refused, no_number, begun, trailing, whole}
 use Rattle.schema.proofs.reading.read_all.Goals as goal
 
 pub returns-in_err-rules : goal.returns-in_err-rules
@@ -19,7 +18,6 @@ loop-sort-init c =
     record {
       stands = begun c.args.bytes.now c.args.table.now c.in_ok-rules.rules.argument c.in_ok-rules.rules.next (pending stack.numbers.now stack.depth) c.in_ok-rules.ensures c.push.ensures.pushed;
       deep = omega (arith, c.push.ensures.depth);
-      stack = omega (arith, c.requires, c.push.ensures.same_length);
       room = omega (arith, c.requires);
       bytes = refl;
       table = refl;
@@ -30,8 +28,7 @@ returns-in_err-advance c =
     let r = c.loop-sort.reader in
     let i = c.loop-sort.invariant in
     let rest = c.pop.new.self in
-    let h : Stands r (sort_of c.in-Some.sort ∷ pending rest.numbers.now rest.depth) = subst (Stands r) c.in-Some.ensures.popped i.stands in
-    let q = c.in_err-advance.ensures.advances (pending rest.numbers.now rest.depth) (whole_pending rest.numbers.now rest.depth) h in
+    let q = c.in_err-advance.ensures.advances (pending rest.numbers.now rest.depth) (whole_pending rest.numbers.now rest.depth) (subst (Stands r) c.in-Some.ensures.popped i.stands) in
     refused (RulesAt c.args.bytes.now _) c.args.bytes.now c.in_err-advance.field-0.0 c.from_residual-in_err-advance.result c.from_residual-in_err-advance.ensures.1 (subst (λ bs. Refused bs c.in_err-advance.field-0.0) i.bytes q) (λ _ p. p)
 
 pub loop-sort-smaller : goal.loop-sort-smaller
@@ -39,8 +36,7 @@ loop-sort-smaller c =
     let r = c.loop-sort.reader in
     let i = c.loop-sort.invariant in
     let rest = c.pop.new.self in
-    let h : Stands r (sort_of c.in-Some.sort ∷ pending rest.numbers.now rest.depth) = subst (Stands r) c.in-Some.ensures.popped i.stands in
-    let q = c.in_ok-advance.ensures.advances (pending rest.numbers.now rest.depth) (whole_pending rest.numbers.now rest.depth) h in
+    let q = c.in_ok-advance.ensures.advances (pending rest.numbers.now rest.depth) (whole_pending rest.numbers.now rest.depth) (subst (Stands r) c.in-Some.ensures.popped i.stands) in
     omega (arith, q.0.spelled, q.2, ap length q.1, ap length i.bytes)
 
 pub loop-sort-preserved : goal.loop-sort-preserved
@@ -48,12 +44,10 @@ loop-sort-preserved c =
     let r = c.loop-sort.reader in
     let i = c.loop-sort.invariant in
     let rest = c.pop.new.self in
-    let h : Stands r (sort_of c.in-Some.sort ∷ pending rest.numbers.now rest.depth) = subst (Stands r) c.in-Some.ensures.popped i.stands in
-    let q = c.in_ok-advance.ensures.advances (pending rest.numbers.now rest.depth) (whole_pending rest.numbers.now rest.depth) h in
+    let q = c.in_ok-advance.ensures.advances (pending rest.numbers.now rest.depth) (whole_pending rest.numbers.now rest.depth) (subst (Stands r) c.in-Some.ensures.popped i.stands) in
     record {
       stands = subst (Stands c.advance.new.self) (sym c.push-in-Some.ensures.pushed) q.0;
       deep = omega (arith, q.3, i.deep, c.pop.ensures.depth, c.push-in-Some.ensures.depth);
-      stack = omega (arith, i.stack, c.pop.ensures.same_length, c.push-in-Some.ensures.same_length);
       room = omega (arith, i.room, c.advance.ensures.same_length);
       bytes = q.1 ∙ i.bytes;
       table = c.advance.ensures.same_table ∙ i.table;

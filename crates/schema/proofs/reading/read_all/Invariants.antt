@@ -7,7 +7,6 @@ abbrev pub invariant-loop-sort : goal.invariant-loop-sort
 invariant-loop-sort l = record {
   stands : Stands l.reader (pending l.stack.numbers.now l.stack.depth);
   deep : l.stack.depth ≤ l.reader.parts + 1;
-  stack : 16388 ≤ length l.stack.numbers.now;
   room : 32768 ≤ length l.reader.table.now;
   bytes : l.reader.bytes.now ≡ l.bytes;
   table : l.reader.table.ghost_name ≡ l.initial.reader.table.ghost_name;

@@ -1,8 +1,22 @@
-// What is in a node: other nodes, and the bytes of a string.
+// A node where one of a sort is wanted, and what is in it: other nodes, and the bytes of a string.
 ghost use Rattle.std.specs.Prelude.{◌≡◌, ◌+◌, min};
-ghost use Rattle.schema.specs.Nodes.{inner_of_schema, inner_of_node, run_of, string_in, rule_part};
+ghost use Rattle.schema.specs.Nodes.{sort_of, inner_of_schema, inner_of_node, run_of, string_in, rule_part};
+ghost use Rattle.schema.specs.Reading.{NodeAt};
 
-use crate::nodes::{Field, Group, Node, Run, Schema, Sort};
+use crate::nodes::{
+    Field, Group, NextNode, Node, Run, Schema, Sort, read_field, read_group, read_schema,
+};
+use cbor::reading::Stop;
+
+pub(crate) fn read_node<'a>(bytes: &'a [u8], at: usize, sort: Sort) -> Result<NextNode<'a>, Stop>
+    ensures { NodeAt (sort_of sort) bytes.now at result }
+{
+    match sort {
+        Sort::ARule | Sort::ASchema => read_schema(bytes, at),
+        Sort::AGroup => read_group(bytes, at),
+        Sort::AField => read_field(bytes, at),
+    }
+}
 
 impl Schema<'_> {
     fn inner(self) -> Run

@@ -25,7 +25,7 @@ use Rattle.schema.specs.Stacks.{number_sort, pending}
 use Rattle.schema.specs.declared.reading.Rules.{Rules}
 use Rattle.schema.specs.declared.reading.NoRules.{NoRules}
 use Rattle.schema.specs.declared.reading.NoRules.TheVariants.{TooLittleLent, TooLarge, Wrong}
-use Rattle.schema.specs.Verdict.{HasTooMany, WrongAt, Reached, Refused, Tabled, RulesAt, RulesTold, IsRead, ReadsBack}
+use Rattle.schema.specs.Verdict.{HasTooMany, WrongAt, Reached, Refused, Tabled, RulesAt, RulesTold, IsRead}
 use Rattle.schema.proofs.Trees.{rules_take, rules_in, are_completes, completes_are}
 use Rattle.schema.specs.Table.{rows, RowWritten}
 use Rattle.schema.proofs.Places.{ceases_first}
@@ -220,11 +220,11 @@ told_from Lent bs table (Err TooLittleLent) l h = absurd h
 told_from Lent bs table (Err TooLarge) l h = (l, h)
 told_from Lent bs table (Err (Wrong p)) l h = (l, h)
 
-pub reads_back : (Lent : Type 0) (bs table : List ℕ) (r : Result Rules NoRules) → RulesTold Lent bs table r → ReadsBack Lent bs table r
-reads_back Lent bs table (Ok r) (a, ((ys, f, m, t), n, b, c)) xs w e l k = same_rules bs xs w e ys table r f m t
-reads_back Lent bs table (Err TooLittleLent) h xs w e l k = h k
-reads_back Lent bs table (Err TooLarge) (a, h) xs w e l k = few_parts bs xs w e l h
-reads_back Lent bs table (Err (Wrong p)) (a, (h, b)) xs w e l k = not_wrong bs xs w e p h
+pub read_back : (bs table : List ℕ) (r : Result Rules NoRules) → RulesAt bs table r → (xs : List Schema) → Writable xs → bs ≡ write xs → parts xs ≤ 8192 → IsRead xs bs table r
+read_back bs table (Ok r) ((ys, f, m, t), n, b, c) xs w e l = same_rules bs xs w e ys table r f m t
+read_back bs table (Err TooLittleLent) h xs w e l = absurd h
+read_back bs table (Err TooLarge) h xs w e l = few_parts bs xs w e l h
+read_back bs table (Err (Wrong p)) (h, b) xs w e l = not_wrong bs xs w e p h
 
 -- with enough lent, the rules are told of
 pub told_at : (Lent : Type 0) (bs table : List ℕ) (r : Result Rules NoRules) → Lent → RulesTold Lent bs table r → RulesAt bs table r

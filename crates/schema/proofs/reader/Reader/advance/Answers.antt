@@ -1,8 +1,8 @@
-use Rattle.std.proofs.Common.{arith, refl}
+use Rattle.std.proofs.Common.{arith}
 use Rattle.schema.specs.declared.reading.NoRules.TheVariants.{Wrong}
 use Rattle.schema.specs.Verdict.{Advances}
-use Rattle.schema.proofs.Readers.{no_node, refused, too_many, one_node}
-use Rattle.schema.proofs.reading.Reader.advance.Goals as goal
+use Rattle.schema.proofs.Progresses.{no_node, refused, too_many}
+use Rattle.schema.proofs.reader.Reader.advance.Goals as goal
 
 pub returns-in_err-read-clause-advances : goal.returns-in_err-read-clause-advances
 returns-in_err-read-clause-advances c ss w h =
@@ -14,9 +14,3 @@ pub returns-then-parts-gt-MOST_PARTS-clause-advances : goal.returns-then-parts-g
 returns-then-parts-gt-MOST_PARTS-clause-advances c ss w h =
     let r = c.args.self.now in
     too_many r.bytes.now r.table.now c.args.sort ss r.at r.parts r.nodes h c.in_ok-read.read c.in_ok-read.ensures w (omega (arith, c.saturating_add-parts.ensures, c.parts.ensures, c.if-parts-gt-MOST_PARTS.true))
-
-pub returns-clause-advances : goal.returns-clause-advances
-returns-clause-advances c ss w h =
-    let r = c.args.self.now in
-    let node = c.in_ok-read.ensures in
-    (one_node r.bytes.now r.table.now c.args.sort ss r.at r.parts r.nodes h c.in_ok-read.read node c.write_row.new.table c.inner.result c.saturating_add-parts.result c.write_row.ensures c.inner.ensures (omega (arith, c.saturating_add-parts.ensures, c.parts.ensures, c.if-parts-gt-MOST_PARTS.false)) (omega (arith, c.if-parts-gt-MOST_PARTS.false)), refl, omega (arith, node), omega (arith, c.saturating_add-parts.ensures, c.parts.ensures, c.if-parts-gt-MOST_PARTS.false))
