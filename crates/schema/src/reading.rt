@@ -57,6 +57,7 @@ impl From<Stop> for NoRules {
     }
 }
 
+#[tactic(auto, using(crate::proofs::Progresses::begun, crate::proofs::Progresses::whole_pending), unfolding(crate::specs::Stacks::pending))]
 fn read_all(bytes: &[u8], stack: &mut [u64], table: &mut [u64]) -> Result<Rules, NoRules>
     requires { Enough (length stack.old) (length table.old) }
     ensures { RulesAt bytes.now table.new result }
