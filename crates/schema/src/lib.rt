@@ -3,6 +3,7 @@
 #![tactic(auto)]
 
 mod entries;
+pub mod kinds;
 pub mod nodes;
 mod reader;
 pub mod reading;

@@ -11,7 +11,7 @@ use crate::sorts::read_node;
 use crate::table::write_row;
 
 // The bytes and the table, and how far reading has come: to which byte, after how many parts and nodes.
-// (3) The facts that `advance` requires are no ghost fields: beside one, a proof doesn't learn what a `&mut` in a field ends as.
+// What `advance` requires is no ghost field: of a struct with one, no proof learns what its `&mut` ends as.
 #[derive(Drop)]
 pub(crate) struct Reader<'b, 't> {
     pub(crate) bytes: &'b [u8],

@@ -31,7 +31,7 @@ impl From<Sort> for u64 {
     }
 }
 
-// Two numbers for each run, a sort and how many of it, the top one last.
+// Two numbers of lent memory for each run, a sort and how many of it, the top one last.
 #[derive(Drop)]
 pub(crate) struct Stack<'a> {
     pub(crate) numbers: &'a mut [u64],

@@ -3,13 +3,14 @@ ghost use Rattle.std.specs.Prelude.{◌≡◌, ◌+◌, ◌*◌, ◌≤◌, leng
 ghost use Rattle.schema.specs.Entries.{form_tokens};
 ghost use Rattle.schema.specs.Table.{row_at, RowOf, RowWritten, EntryAt, Seen};
 
-use crate::entries::{Entry, Form, NodeKind};
+use crate::entries::{Entry, Form};
+use crate::kinds::NodeKind;
 use crate::nodes::Node;
 
 // How many numbers a row takes: the opcode, its form, and two numbers, or where a string stands and how long it is.
 pub const ROW: usize = 4;
 
-// What the second number of a row says of the third and the fourth.
+// What the second number of a row, which is lent memory, says of the third and the fourth.
 const BARE: u64 = 0;
 
 const NUMBER: u64 = 1;
