@@ -7,9 +7,9 @@ use Rattle.cbor.specs.Prefix.{Any as AnyOf, Stops}
 use Rattle.cbor.specs.Reading.{Stopped}
 use Rattle.sequence.specs.Token.{Token, num, spell, number, TokenOf}
 use Rattle.sequence.specs.Grammar.{Takes, Completes}
+use Rattle.sequence.specs.declared.reading.Parsed.{Parsed}
 use Rattle.sequence.specs.Reading.{TokenAt, SpelledAt, PendingStops}
 use Rattle.sequence.proofs.Grammars.{takes_append, completes_free, spelled_one, spelled_append, stop_after, one_begins}
-use Rattle.schema.specs.declared.nodes.NextNode.{NextNode}
 use Rattle.schema.specs.declared.nodes.Schema.TheVariants.{Any, Unsigned, Negative, ByteLength, TextLength, Literal, Choice, Array, Map, Tag, Rule}
 use Rattle.schema.specs.declared.nodes.Group.TheVariants.{Empty, One, Sequence, FirstOf, Repeat}
 use Rattle.schema.specs.declared.nodes.Field.TheVariants.{Required, Optional, Others}
@@ -116,33 +116,33 @@ module _ (bs stack table : List ℕ) (s : Progress) (h : Reached bs stack table 
     no_node stop f = (wrong_from bs stop (stop_after grammar (the_rules ∷ []) (sort_of q ∷ pending taken s.depth) h.read bs 0 s.at stop one_pending h.spelled (f (pending taken s.depth)).0), not_too_many bs h.read (sort_of q ∷ pending taken s.depth) s.at one_pending h.spelled (let z = h.few in let y = h.counted in omega arith) (f (pending taken s.depth)).1)
 
     -- one there
-    module _ (x : NextNode) (node : NodeAt (sort_of q) bs s.at (Ok x)) where
+    module _ (x : Parsed Node) (node : NodeAt (sort_of q) bs s.at (Ok x)) where
       more : List Token
-      more = h.read ++ own_tokens x.node
+      more = h.read ++ own_tokens x.value
 
-      spelled : SpelledAt (h.read ++ own_tokens x.node) bs 0 x.next
-      spelled = spelled_append h.read (own_tokens x.node) bs 0 s.at x.next h.spelled node.2
+      spelled : SpelledAt (h.read ++ own_tokens x.value) bs 0 x.next
+      spelled = spelled_append h.read (own_tokens x.value) bs 0 s.at x.next h.spelled node.2
 
-      taking : Takes grammar (the_rules ∷ []) (h.read ++ own_tokens x.node) (inside x.node ++ pending taken s.depth)
-      taking = takes_append grammar (the_rules ∷ []) (sort_of q ∷ pending taken s.depth) (inside x.node ++ pending taken s.depth) h.read (own_tokens x.node) one_pending (node.3 (pending taken s.depth))
+      taking : Takes grammar (the_rules ∷ []) (h.read ++ own_tokens x.value) (inside x.value ++ pending taken s.depth)
+      taking = takes_append grammar (the_rules ∷ []) (sort_of q ∷ pending taken s.depth) (inside x.value ++ pending taken s.depth) h.read (own_tokens x.value) one_pending (node.3 (pending taken s.depth))
 
-      counting : parts_in (the_rules ∷ []) (h.read ++ own_tokens x.node) ≡ s.parts + (rule_part q + (1 + string_in x.node))
-      counting = parts_append (the_rules ∷ []) (sort_of q ∷ pending taken s.depth) h.read (own_tokens x.node) one_pending ∙ (λ i. sym h.counted i + node_weighs q x.node (pending taken s.depth) node.0 i)
+      counting : parts_in (the_rules ∷ []) (h.read ++ own_tokens x.value) ≡ s.parts + (rule_part q + (1 + string_in x.value))
+      counting = parts_append (the_rules ∷ []) (sort_of q ∷ pending taken s.depth) h.read (own_tokens x.value) one_pending ∙ (λ i. sym h.counted i + node_weighs q x.value (pending taken s.depth) node.0 i)
 
-      pub too_many : 8192 < s.parts + (rule_part q + (1 + string_in x.node)) → HasTooMany bs
-      too_many l = (h.read ++ own_tokens x.node, inside x.node ++ pending taken s.depth, x.next, spelled, taking, whole_many (inner_of_node x.node).1 (inner_of_node x.node).0 (pending taken s.depth) (opens_inside x.node) (whole_pending taken s.depth), subst (λ n. 8192 < n) (sym counting) l)
+      pub too_many : 8192 < s.parts + (rule_part q + (1 + string_in x.value)) → HasTooMany bs
+      too_many l = (h.read ++ own_tokens x.value, inside x.value ++ pending taken s.depth, x.next, spelled, taking, whole_many (inner_of_node x.value).1 (inner_of_node x.value).0 (pending taken s.depth) (opens_inside x.value) (whole_pending taken s.depth), subst (λ n. 8192 < n) (sym counting) l)
 
-      pub one_node : (new rowed : List ℕ) (r : Run) (n : ℕ) → RowWritten table s.nodes x.node x.next rowed → run_of r ≡ inner_of_node x.node → pending new (s.depth + 1) ≡ many r.count (sort_of r.sort) ++ pending taken s.depth → n ≡ s.parts + (rule_part q + (1 + string_in x.node)) → n ≤ 8192 → Reached bs new rowed (record { at = x.next; depth = s.depth + 1; parts = n; nodes = s.nodes + 1 })
+      pub one_node : (new rowed : List ℕ) (r : Run) (n : ℕ) → RowWritten table s.nodes x.value x.next rowed → run_of r ≡ inner_of_node x.value → pending new (s.depth + 1) ≡ many r.count (sort_of r.sort) ++ pending taken s.depth → n ≡ s.parts + (rule_part q + (1 + string_in x.value)) → n ≤ 8192 → Reached bs new rowed (record { at = x.next; depth = s.depth + 1; parts = n; nodes = s.nodes + 1 })
       one_node new rowed r n row e p m l = record {
         few = l;
         deep = (let z = h.deep in omega arith);
-        read = h.read ++ own_tokens x.node;
+        read = h.read ++ own_tokens x.value;
         spelled = spelled;
-        takes = subst (λ ss. Takes grammar (the_rules ∷ []) (h.read ++ own_tokens x.node) ss) (sym (p ∙ ap (λ y. many y.1 y.0 ++ pending taken s.depth) e)) taking;
+        takes = subst (λ ss. Takes grammar (the_rules ∷ []) (h.read ++ own_tokens x.value) ss) (sym (p ∙ ap (λ y. many y.1 y.0 ++ pending taken s.depth) e)) taking;
         counted = m ∙ sym counting;
         listed = (let z = h.listed in omega arith);
         count = h.count;
-        tabled = ap (λ ts. ts ++ own_tokens x.node) h.tabled ∙ ap (λ ts. num h.count ∷ ts) (sym (row bs s.at node.2));
+        tabled = ap (λ ts. ts ++ own_tokens x.value) h.tabled ∙ ap (λ ts. num h.count ∷ ts) (sym (row bs s.at node.2));
       }
 
 -- THE BEGINNING AND THE END

@@ -6,12 +6,10 @@ ghost use Rattle.schema.specs.Reading.{NodeAt};
 ghost use Rattle.schema.specs.Stacks.{number_sort, pending};
 ghost use Rattle.schema.specs.Verdict.{Reached, Advances, Enough, RulesAt, RulesTold, ReadsBack};
 
-use crate::nodes::{
-    Field, Group, NextNode, Node, Run, Schema, Sort, read_field, read_group, read_schema,
-};
+use crate::nodes::{Field, Group, Node, Run, Schema, Sort, read_field, read_group, read_schema};
 use crate::table::write_row;
 use cbor::reading::Stop;
-use sequence::reading::read_number;
+use sequence::reading::{Parsed, read_number};
 
 // Rules of more parts are not looked at.
 pub const MOST_PARTS: usize = 8192;
@@ -46,7 +44,7 @@ struct Progress {
     nodes: usize,
 }
 
-fn read_node<'a>(bytes: &'a [u8], at: usize, sort: Sort) -> Result<NextNode<'a>, Stop>
+fn read_node<'a>(bytes: &'a [u8], at: usize, sort: Sort) -> Result<Parsed<Node<'a>>, Stop>
     ensures { NodeAt (sort_of sort) bytes.now at result }
 {
     match sort {
@@ -174,12 +172,12 @@ fn advance(
         Ok(read) => read,
         Err(stop) => return Err(NoRules::Wrong(stop.place)),
     };
-    let parts = progress.parts.saturating_add(parts_of(sort, read.node));
+    let parts = progress.parts.saturating_add(parts_of(sort, read.value));
     if parts > MOST_PARTS {
         return Err(NoRules::TooLarge);
     }
-    push(stack, progress.depth, in_node_of(read.node));
-    write_row(table, progress.nodes, read.node, read.next);
+    push(stack, progress.depth, in_node_of(read.value));
+    write_row(table, progress.nodes, read.value, read.next);
     Ok(Progress {
         at: read.next,
         depth: progress.depth + 1,
