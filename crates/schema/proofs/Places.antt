@@ -45,7 +45,7 @@ ceases_later : (s : Sort) (ss : List Sort) (t : Token) (bs : List ℕ) (at mid :
 ceases_later s ss t bs at mid stop x (h, k) o = (stop_later grammar s ss t bs at mid stop x.0 h, stuck_later s ss t bs at mid x k o)
 
 -- an opcode, and then the rest of the node
-pub node_whole : (s : Sort) (n : ℕ) (bs : List ℕ) (at mid : ℕ) (r : Result (Parsed Node) Stop) → TokenAt (shape s) (num n) bs at mid → RestAt s n bs mid r → NodeAt s bs at r
+node_whole : (s : Sort) (n : ℕ) (bs : List ℕ) (at mid : ℕ) (r : Result (Parsed Node) Stop) → TokenAt (shape s) (num n) bs at mid → RestAt s n bs mid r → NodeAt s bs at r
 unfolding Takes
 node_whole s n bs at mid (Ok x) t (o, ts, e, p, f) =
     let q = spelled_append (num n ∷ []) ts bs at mid x.next (spelled_one (shape s) (num n) bs at mid t) p in
@@ -53,7 +53,7 @@ node_whole s n bs at mid (Ok x) t (o, ts, e, p, f) =
 node_whole s n bs at mid (Err stop) t h = λ ss. ceases_later s ss (num n) bs at mid stop t (h ss).0 (h ss).1
 
 -- nothing but the opcode
-pub rest_none : (s : Sort) (n : ℕ) (x : Node) (bs : List ℕ) (mid : ℕ) → mid ≤ length bs → OfSort s x → own_tokens x ≡ num n ∷ [] → after s n ≡ inside x → RestAt s n bs mid (Ok (record { value = x; next = mid }))
+rest_none : (s : Sort) (n : ℕ) (x : Node) (bs : List ℕ) (mid : ℕ) → mid ≤ length bs → OfSort s x → own_tokens x ≡ num n ∷ [] → after s n ≡ inside x → RestAt s n bs mid (Ok (record { value = x; next = mid }))
 unfolding Takes spell
 rest_none s n x bs mid h o e f = (o, [], e, (omega arith, h, ap (λ k. take k (drop mid bs)) (let z : mid - mid ≡ 0 = omega arith in z)), λ ss. ap (λ ys. ys ++ ss) f)
 
@@ -91,15 +91,12 @@ none_inside : (x : Schema) → (inner_of_schema x).1 ≡ 0 → inside (OfSchema 
 unfolding many
 none_inside x e = ap (λ k. many k (inner_of_schema x).0) e
 
-ranged_rest : (n : ℕ) (made : ℕ → ℕ → Schema → Type 0) (bs : List ℕ) (at : ℕ) (r : Result (Parsed Node) Stop) → after_schema n ≡ a_bound ∷ a_last ∷ [] → ((lo hi : ℕ) (x : Schema) → made lo hi x → (schema_own x ≡ num n ∷ num lo ∷ num hi ∷ []) × ((inner_of_schema x).1 ≡ 0)) → RangedAt made bs at r → RestAt a_schema n bs at r
+pub ranged_rest : (n : ℕ) (made : ℕ → ℕ → Schema → Type 0) (bs : List ℕ) (at : ℕ) (r : Result (Parsed Node) Stop) → RangedAt made bs at r → after_schema n ≡ a_bound ∷ a_last ∷ [] → ((lo hi : ℕ) (x : Schema) → made lo hi x → (schema_own x ≡ num n ∷ num lo ∷ num hi ∷ []) × ((inner_of_schema x).1 ≡ 0)) → RestAt a_schema n bs at r
 unfolding Takes
-ranged_rest n made bs at (Ok y) l g (lo, hi, x, m, e, a, b, p) =
+ranged_rest n made bs at (Ok y) (lo, hi, x, m, e, a, b, p) l g =
     let (o, f) = g lo hi x m in
     subst (λ z. RestAt a_schema n bs at (Ok (record { value = z; next = y.next }))) (sym e) (inl refl, num lo ∷ num hi ∷ [], o, p, λ ss. subst (λ ys. Takes grammar (ys ++ ss) (num lo ∷ num hi ∷ []) (inside (OfSchema x) ++ ss)) (sym l) (subst (λ ys. Takes grammar (a_bound ∷ a_last ∷ ss) (num lo ∷ num hi ∷ []) (ys ++ ss)) (sym (none_inside x f)) (a, (b, refl))))
-ranged_rest n made bs at (Err stop) l g h = λ ss. subst (λ ys. Ceases (ys ++ ss) bs at stop × (Whole (ys ++ ss) → ⊥)) (sym l) (h ss, λ w. w)
-
-pub ranged_node : (n m : ℕ) (made : ℕ → ℕ → Schema → Type 0) (bs : List ℕ) (at mid : ℕ) (r : Result (Parsed Node) Stop) → n ≡ m → TokenAt (shape a_schema) (num n) bs at mid → RangedAt made bs mid r → after_schema m ≡ a_bound ∷ a_last ∷ [] → ((lo hi : ℕ) (x : Schema) → made lo hi x → (schema_own x ≡ num m ∷ num lo ∷ num hi ∷ []) × ((inner_of_schema x).1 ≡ 0)) → NodeAt a_schema bs at r
-ranged_node n m made bs at mid r z t h l g = node_after a_schema n m bs at mid r z t (ranged_rest m made bs mid r l g h)
+ranged_rest n made bs at (Err stop) h l g = λ ss. subst (λ ys. Ceases (ys ++ ss) bs at stop × (Whole (ys ++ ss) → ⊥)) (sym l) (h ss, λ w. w)
 
 pub repeat_there : (lo hi : ℕ) (bs : List ℕ) (at end : ℕ) → Word lo × Word hi × SpelledAt (num lo ∷ num hi ∷ []) bs at end → RestAt a_group 4 bs at (Ok (record { value = OfGroup (Repeat lo hi); next = end }))
 unfolding Takes many
@@ -110,15 +107,12 @@ repeat_stops bs at stop f = λ ss. (f (a_group ∷ ss), λ w. w)
 
 -- ONE NUMBER
 
-numbered_rest : (n : ℕ) (s : Sort) (after_it : List Sort) (made : ℕ → Schema → Type 0) (bs : List ℕ) (at : ℕ) (r : Result (Parsed Node) Stop) → shape s ≡ number → (Opens s → ⊥) → after_schema n ≡ s ∷ after_it → ((k : ℕ) (x : Schema) → made k x → (schema_own x ≡ num n ∷ num k ∷ []) × ((ss : List Sort) → after s k ++ (after_it ++ ss) ≡ inside (OfSchema x) ++ ss)) → NumberedAt made bs at r → RestAt a_schema n bs at r
+pub numbered_rest : (n : ℕ) (s : Sort) (after_it : List Sort) (made : ℕ → Schema → Type 0) (bs : List ℕ) (at : ℕ) (r : Result (Parsed Node) Stop) → NumberedAt made bs at r → shape s ≡ number → (Opens s → ⊥) → after_schema n ≡ s ∷ after_it → ((k : ℕ) (x : Schema) → made k x → (schema_own x ≡ num n ∷ num k ∷ []) × ((ss : List Sort) → after s k ++ (after_it ++ ss) ≡ inside (OfSchema x) ++ ss)) → RestAt a_schema n bs at r
 unfolding Takes
-numbered_rest n s after_it made bs at (Ok y) i j l g (k, x, m, e, t) =
+numbered_rest n s after_it made bs at (Ok y) (k, x, m, e, t) i j l g =
     let (o, f) = g k x m in
     subst (λ z. RestAt a_schema n bs at (Ok (record { value = z; next = y.next }))) (sym e) (inl refl, num k ∷ [], o, spelled_one number (num k) bs at y.next t, λ ss. subst (λ ys. Takes grammar (ys ++ ss) (num k ∷ []) (inside (OfSchema x) ++ ss)) (sym l) (subst (λ z. Suits z (num k)) (sym i) t.0.2.1, f ss))
-numbered_rest n s after_it made bs at (Err stop) i j l g h = λ ss. subst (λ ys. Ceases (ys ++ ss) bs at stop × (Whole (ys ++ ss) → ⊥)) (sym l) (ceases_first s (after_it ++ ss) bs at stop (subst (λ z. Stopped (Any (TokenOf z)) bs at stop) (sym i) h), j)
-
-pub numbered_node : (n m : ℕ) (s : Sort) (after_it : List Sort) (made : ℕ → Schema → Type 0) (bs : List ℕ) (at mid : ℕ) (r : Result (Parsed Node) Stop) → n ≡ m → TokenAt (shape a_schema) (num n) bs at mid → NumberedAt made bs mid r → shape s ≡ number → (Opens s → ⊥) → after_schema m ≡ s ∷ after_it → ((k : ℕ) (x : Schema) → made k x → (schema_own x ≡ num m ∷ num k ∷ []) × ((ss : List Sort) → after s k ++ (after_it ++ ss) ≡ inside (OfSchema x) ++ ss)) → NodeAt a_schema bs at r
-numbered_node n m s after_it made bs at mid r z t h i j l g = node_after a_schema n m bs at mid r z t (numbered_rest m s after_it made bs mid r i j l g h)
+numbered_rest n s after_it made bs at (Err stop) h i j l g = λ ss. subst (λ ys. Ceases (ys ++ ss) bs at stop × (Whole (ys ++ ss) → ⊥)) (sym l) (ceases_first s (after_it ++ ss) bs at stop (subst (λ z. Stopped (Any (TokenOf z)) bs at stop) (sym i) h), j)
 
 -- STRINGS
 
@@ -128,15 +122,12 @@ literal_there bs at end item t = (inl refl, str item.now ∷ [], refl, spelled_o
 
 -- FIELDS
 
-keyed_rest : (n : ℕ) (made : Bor (List ℕ) → Field → Type 0) (bs : List ℕ) (at : ℕ) (r : Result (Parsed Node) Stop) → after_field n ≡ a_literal ∷ a_schema ∷ [] → ((key : Bor (List ℕ)) (x : Field) → made key x → (field_own x ≡ num n ∷ str key.now ∷ []) × (inner_of_field x ≡ (a_schema, 1))) → KeyedAt made bs at r → RestAt a_field n bs at r
+pub keyed_rest : (n : ℕ) (made : Bor (List ℕ) → Field → Type 0) (bs : List ℕ) (at : ℕ) (r : Result (Parsed Node) Stop) → KeyedAt made bs at r → after_field n ≡ a_literal ∷ a_schema ∷ [] → ((key : Bor (List ℕ)) (x : Field) → made key x → (field_own x ≡ num n ∷ str key.now ∷ []) × (inner_of_field x ≡ (a_schema, 1))) → RestAt a_field n bs at r
 unfolding Takes many
-keyed_rest n made bs at (Ok y) l g (key, x, m, e, t) =
+keyed_rest n made bs at (Ok y) (key, x, m, e, t) l g =
     let (o, f) = g key x m in
     subst (λ z. RestAt a_field n bs at (Ok (record { value = z; next = y.next }))) (sym e) (refl, str key.now ∷ [], o, spelled_one string (str key.now) bs at y.next t, λ ss. subst (λ ys. Takes grammar (ys ++ ss) (str key.now ∷ []) (inside (OfField x) ++ ss)) (sym l) (t.0.2.1, ap (λ p. many p.1 p.0 ++ ss) (sym f)))
-keyed_rest n made bs at (Err stop) l g h = λ ss. subst (λ ys. Ceases (ys ++ ss) bs at stop × (Whole (ys ++ ss) → ⊥)) (sym l) (ceases_first a_literal (a_schema ∷ ss) bs at stop h, λ w. w)
-
-pub keyed_node : (n m : ℕ) (made : Bor (List ℕ) → Field → Type 0) (bs : List ℕ) (at mid : ℕ) (r : Result (Parsed Node) Stop) → n ≡ m → TokenAt (shape a_field) (num n) bs at mid → KeyedAt made bs mid r → after_field m ≡ a_literal ∷ a_schema ∷ [] → ((key : Bor (List ℕ)) (x : Field) → made key x → (field_own x ≡ num m ∷ str key.now ∷ []) × (inner_of_field x ≡ (a_schema, 1))) → NodeAt a_field bs at r
-keyed_node n m made bs at mid r z t h l g = node_after a_field n m bs at mid r z t (keyed_rest m made bs mid r l g h)
+keyed_rest n made bs at (Err stop) h l g = λ ss. subst (λ ys. Ceases (ys ++ ss) bs at stop × (Whole (ys ++ ss) → ⊥)) (sym l) (ceases_first a_literal (a_schema ∷ ss) bs at stop h, λ w. w)
 
 -- RULES
 

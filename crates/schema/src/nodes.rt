@@ -88,7 +88,7 @@ fn read_ranged<'a, F: FnOnce(u64, u64) -> Schema<'a>>(
     requires { F.IsAlwaysCallable make }
     ensures { RangedAt (F.post make) bytes.now at result }
 {
-    // Not by `map`: a closure that calls `make`, whose result lends the bytes, is not covered.
+    // Tried: `map`. No proof is made of a closure that calls `make`, whose result holds the bytes.
     let Parsed {
         value: (low, high),
         next,
@@ -126,6 +126,7 @@ pub fn read_schema<'a>(bytes: &'a [u8], at: usize) -> Result<Parsed<Node<'a>>, S
     ensures { NodeAt a_schema bytes.now at result }
 {
     let opcode = read_opcode(bytes, at, 10)?;
+    // Here the number that was read becomes its enum.
     match opcode.argument {
         0 => bare(Node::OfSchema(Schema::Any), opcode.next),
         1 => read_ranged(bytes, opcode.next, Schema::Unsigned),
@@ -145,6 +146,7 @@ pub fn read_group<'a>(bytes: &'a [u8], at: usize) -> Result<Parsed<Node<'a>>, St
     ensures { NodeAt a_group bytes.now at result }
 {
     let opcode = read_opcode(bytes, at, 4)?;
+    // Here the number that was read becomes its enum.
     match opcode.argument {
         0 => bare(Node::OfGroup(Group::Empty), opcode.next),
         1 => bare(Node::OfGroup(Group::One), opcode.next),
@@ -170,6 +172,7 @@ fn read_keyed<'a, F: FnOnce(&'a [u8]) -> Field<'a>>(
     requires { F.IsAlwaysCallable make }
     ensures { KeyedAt (F.post make) bytes.now at result }
 {
+    // Tried: `map`. No proof is made of a closure that calls `make`, whose result holds the bytes.
     let Parsed { value: key, next } = read_string(bytes, at)?;
     Ok(Parsed {
         value: Node::OfField(make(key)),
@@ -181,6 +184,7 @@ pub fn read_field<'a>(bytes: &'a [u8], at: usize) -> Result<Parsed<Node<'a>>, St
     ensures { NodeAt a_field bytes.now at result }
 {
     let opcode = read_opcode(bytes, at, 2)?;
+    // Here the number that was read becomes its enum.
     match opcode.argument {
         0 => read_keyed(bytes, opcode.next, Field::Required),
         1 => read_keyed(bytes, opcode.next, Field::Optional),
