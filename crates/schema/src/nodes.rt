@@ -1,7 +1,6 @@
 // The nodes of rules, each schema, group and field by itself, read from lent bytes.
-ghost use Rattle.std.specs.Prelude.{◌≡◌, ◌+◌, ◌<◌, ◌≤◌, Ok};
+ghost use Rattle.std.specs.Prelude.{◌≡◌, Ok};
 ghost use Rattle.schema.specs.Grammar.{a_schema, a_group, a_field};
-ghost use Rattle.schema.specs.Nodes.{sort_of, inner_of_node, run_of, string_in};
 ghost use Rattle.schema.specs.Reading.{RangeAt, RangedAt, NumberedAt, KeyedAt, RestAt, NodeAt};
 
 use cbor::reading::{Head, Stop};
