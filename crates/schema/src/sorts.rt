@@ -1,6 +1,6 @@
 // A node where one of a sort is wanted, and what is in it: other nodes, and the bytes of a string.
 ghost use Rattle.std.specs.Prelude.{◌≡◌, ◌+◌, min};
-ghost use Rattle.schema.specs.Nodes.{sort_of, inner_of_schema, inner_of_node, run_of, string_in, rule_part};
+ghost use Rattle.schema.specs.Nodes.{sort_of, inner_of_schema, inner_of_group, inner_of_field, inner_of_node, run_of, string_in, rule_part};
 ghost use Rattle.schema.specs.Reading.{NodeAt};
 
 use crate::nodes::{Field, Group, Node, Run, Schema, Sort, read_field, read_group, read_schema};
@@ -36,20 +36,44 @@ impl Schema<'_> {
     }
 }
 
+impl Group {
+    fn inner(self) -> Run
+        ensures { run_of result ≡ inner_of_group self }
+    {
+        let (sort, count) = match self {
+            Group::Empty => (Sort::ASchema, 0),
+            Group::One => (Sort::ASchema, 1),
+            Group::Sequence | Group::FirstOf => (Sort::AGroup, 2),
+            Group::Repeat(_, _) => (Sort::AGroup, 1),
+        };
+        Run { sort, count }
+    }
+}
+
+impl Field<'_> {
+    fn inner(self) -> Run
+        ensures { run_of result ≡ inner_of_field self.entry }
+    {
+        let count = match self {
+            Field::Required(_) | Field::Optional(_) => 1,
+            Field::Others => 2,
+        };
+        Run {
+            sort: Sort::ASchema,
+            count,
+        }
+    }
+}
+
 impl Node<'_> {
     pub(crate) fn inner(self) -> Run
         ensures { run_of result ≡ inner_of_node self.entry }
     {
-        let (sort, count) = match self {
-            Node::OfSchema(schema) => return schema.inner(),
-            Node::OfGroup(Group::Empty) => (Sort::ASchema, 0),
-            Node::OfGroup(Group::One) => (Sort::ASchema, 1),
-            Node::OfGroup(Group::Sequence | Group::FirstOf) => (Sort::AGroup, 2),
-            Node::OfGroup(Group::Repeat(_, _)) => (Sort::AGroup, 1),
-            Node::OfField(Field::Required(_) | Field::Optional(_)) => (Sort::ASchema, 1),
-            Node::OfField(Field::Others) => (Sort::ASchema, 2),
-        };
-        Run { sort, count }
+        match self {
+            Node::OfSchema(schema) => schema.inner(),
+            Node::OfGroup(group) => group.inner(),
+            Node::OfField(field) => field.inner(),
+        }
     }
 
     // How many bytes its literal or key has.
