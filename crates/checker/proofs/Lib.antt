@@ -1,6 +1,5 @@
 mod Steps
 mod Walks
-mod Firsts
 mod Odds
 mod Entries
 mod Verdicts

@@ -1,7 +1,9 @@
 -- Where a key is at odds with the last one, by comparing them.
-use Rattle.std.proofs.Common.{◌≡◌, ℕ, zero, suc, ◌+◌, ◌-◌, ◌<◌, ◌≤◌, false, List, [], ◌∷◌, ◌++◌, length, take, drop, Some, None, Option, sym, refl, ap, ◌∙◌, inl, inr, arith, length-append}
+use Rattle.std.proofs.Common.{◌≡◌, ℕ, slice_range, zero, suc, ◌+◌, ◌-◌, ◌<◌, ◌≤◌, false, ltb, List, [], ◌∷◌, ◌++◌, length, take, drop, Some, None, Option, sym, refl, ap, ◌∙◌, inl, inr, arith, length-append}
 use Rattle.std.proofs.lemmas.Bool.{lt-ltb, le-ltb, cases_lt, both_ways}
-use Rattle.std.proofs.lemmas.List.{length-take-le, length-drop, take_all, take-append-le}
+use Rattle.cbor.proofs.Places.{part_length}
+use Rattle.std.proofs.lemmas.List.{append-nil, length-take-le, length-drop, take_all, take-append-le}
+use Rattle.std.specs.Bool.{then_some}
 use Rattle.std.specs.Option.{SomeIff}
 use Rattle.cbor.specs.Order.{before}
 use Rattle.cbor.specs.Prefix.{PrefixFree}
@@ -11,41 +13,49 @@ use Rattle.prefixes.proofs.Order.{apart_before, apart_place}
 use Rattle.prefixes.proofs.Words.{free_meets}
 use Rattle.prefixes.specs.Walks.{odd_at, odd_next}
 use Rattle.prefixes.proofs.Steps.{odd_part}
-use Rattle.checker.specs.Keys.{OddOf, OddTold}
+use Rattle.checker.specs.Keys.{OddOf}
 
 odd_same : (m x b : ℕ) (l q : List ℕ) → x ≡ b → odd_at (suc m) (x ∷ l) (b ∷ q) ≡ odd_next m (odd_at m l q)
 unfolding odd_at
 odd_same m x b l q e = rw (le-ltb b x (omega arith), le-ltb x b (omega arith))
 
+-- BY WHERE TWO KEYS PART, whatever comes after the next one
+
+pub apart_larger : (m i : ℕ) (l q x : List ℕ) → i < m → Apart i l q → odd_at m l (q ++ x) ≡ []
+unfolding Apart odd_at
+apart_larger zero i l q x h a = absurd (omega arith)
+apart_larger (suc m) i [] q x h a = absurd a
+apart_larger (suc m) i (y ∷ l) [] x h a = absurd a
+apart_larger (suc m) zero (y ∷ l) (b ∷ q) x h a = rw (le-ltb b y (omega arith), lt-ltb y b a)
+apart_larger (suc zero) (suc i) (y ∷ l) (b ∷ q) x h a = absurd (omega arith)
+apart_larger (suc (suc m)) (suc i) (y ∷ l) (b ∷ q) x h (e, a) = odd_same (suc m) y b l (q ++ x) e ∙ rw (apart_larger (suc m) i l q x (omega arith) a)
+
+apart_smaller : (m i : ℕ) (l q x : List ℕ) → i < m → Apart i q l → odd_at m l (q ++ x) ≡ i ∷ []
+unfolding Apart odd_at
+apart_smaller zero i l q x h a = absurd (omega arith)
+apart_smaller (suc m) i l [] x h a = absurd a
+apart_smaller (suc m) i [] (b ∷ q) x h a = absurd a
+apart_smaller (suc m) zero (y ∷ l) (b ∷ q) x h a = rw (lt-ltb b y a)
+apart_smaller (suc zero) (suc i) (y ∷ l) (b ∷ q) x h a = absurd (omega arith)
+apart_smaller (suc (suc m)) (suc i) (y ∷ l) (b ∷ q) x h (e, a) = odd_same (suc m) y b l (q ++ x) (sym e) ∙ rw (apart_smaller (suc m) i l q x (omega arith) a)
+
+-- the same by an index that decides
+
+decided_apart : (i : ℕ) (xs ys : List ℕ) → i < length xs → DecidedAt i xs ys → Apart i xs ys
+unfolding Apart
+decided_apart i [] ys h d = absurd (omega arith)
+decided_apart zero (x ∷ xs) [] h (e, f) = absurd f
+decided_apart (suc i) (x ∷ xs) [] h (e, f) = absurd (let z = ap length e in omega arith)
+decided_apart zero (x ∷ xs) (y ∷ ys) h (e, f) = f
+decided_apart (suc i) (x ∷ xs) (y ∷ ys) h (e, f) = ((cc), decided_apart i xs ys (omega arith) ((cc), f))
+
 -- the key has the larger byte
 pub odd_larger : (i m : ℕ) (l q : List ℕ) → i < m → i < length l → DecidedAt i l q → odd_at m l q ≡ []
-unfolding odd_at
-odd_larger i zero l q h k d = absurd (omega arith)
-odd_larger zero (suc m) [] q h k d = absurd (omega arith)
-odd_larger zero (suc m) (x ∷ l) [] h k (e, f) = absurd f
-odd_larger zero (suc m) (x ∷ l) (b ∷ q) h k (e, f) = rw (le-ltb b x (omega arith), lt-ltb x b f)
-odd_larger (suc i) (suc m) [] q h k d = absurd (omega arith)
-odd_larger (suc i) (suc m) (x ∷ l) [] h k (e, f) = absurd (let z = ap length e in omega arith)
-odd_larger (suc i) (suc zero) (x ∷ l) (b ∷ q) h k (e, f) = absurd (omega arith)
-odd_larger (suc i) (suc (suc m)) (x ∷ l) (b ∷ q) h k (e, f) =
-    let p : x ≡ b = cc in
-    let t : take i l ≡ take i q = cc in
-    odd_same (suc m) x b l q p ∙ rw (odd_larger i (suc m) l q (omega arith) (omega arith) (t, f))
+odd_larger i m l q h k d = ap (odd_at m l) (sym (append-nil q)) ∙ apart_larger m i l q [] h (decided_apart i l q k d)
 
 -- the key has the smaller byte
-pub odd_smaller : (i m : ℕ) (l q : List ℕ) → i < m → i < length q → DecidedAt i q l → odd_at m l q ≡ i ∷ []
-unfolding odd_at
-odd_smaller i zero l q h k d = absurd (omega arith)
-odd_smaller zero (suc m) l [] h k d = absurd (omega arith)
-odd_smaller zero (suc m) [] (b ∷ q) h k (e, f) = absurd f
-odd_smaller zero (suc m) (x ∷ l) (b ∷ q) h k (e, f) = rw (lt-ltb b x f)
-odd_smaller (suc i) (suc m) l [] h k d = absurd (omega arith)
-odd_smaller (suc i) (suc m) [] (b ∷ q) h k (e, f) = absurd (let z = ap length e in omega arith)
-odd_smaller (suc i) (suc zero) (x ∷ l) (b ∷ q) h k (e, f) = absurd (omega arith)
-odd_smaller (suc i) (suc (suc m)) (x ∷ l) (b ∷ q) h k (e, f) =
-    let p : x ≡ b = cc in
-    let t : take i q ≡ take i l = cc in
-    odd_same (suc m) x b l q p ∙ rw (odd_smaller i (suc m) l q (omega arith) (omega arith) (t, f))
+odd_smaller : (i m : ℕ) (l q : List ℕ) → i < m → i < length q → DecidedAt i q l → odd_at m l q ≡ i ∷ []
+odd_smaller i m l q h k d = ap (odd_at m l) (sym (append-nil q)) ∙ apart_smaller m i l q [] h (decided_apart i q l k d)
 
 -- the key ends before they differ
 pub odd_short : (m : ℕ) (l q : List ℕ) → length q < m → take (length q) l ≡ q → odd_at m l q ≡ []
@@ -82,15 +92,16 @@ some_after (x ∷ xs) (y ∷ ys) f = omega arith
 decided_within : (i : ℕ) (xs ys : List ℕ) → DecidedAt i xs ys → i < length ys
 decided_within i xs ys (e, f) = (let z = some_after (drop i xs) (drop i ys) f in let y = length-drop i ys in omega arith)
 
-pub odd_by_after : (i : ℕ) (l q : List ℕ) → i < length q → DecidedAt i q l → OddOf l q (Some i)
-odd_by_after i l q h d = let k = decided_within i q l d in (odd_smaller i (length l) l q k h d, k)
-
-pub odd_by_end : (i : ℕ) (l q : List ℕ) → length q ≤ i → DecidedAt i q l → OddOf l q None
-odd_by_end i l q h (e, f) =
-    let k = decided_within i q l (e, f) in
-    let a : q ≡ take i l = sym (take_all i q h) ∙ e in
-    let b : length q ≡ i = ap length a ∙ length-take-le i l (omega arith) in
-    odd_short (length l) l q (omega arith) (ap (λ n. take n l) b ∙ sym a)
+pub odd_by_after : (i : ℕ) (l q : List ℕ) → DecidedAt i q l → OddOf l q (then_some (ltb i (length q)) i)
+odd_by_after i l q d =
+    let k = decided_within i q l d in
+    elim (cases_lt i (length q)) [ inl h ↦ rw (lt-ltb i (length q) h) (odd_smaller i (length l) l q k h d, k) | inr h ↦ rw (le-ltb i (length q) h) (at_end h k d) ]
+  where
+    at_end : length q ≤ i → i < length l → DecidedAt i q l → odd_at (length l) l q ≡ []
+    at_end h k (e, f) =
+        let a : q ≡ take i l = sym (take_all i q h) ∙ e in
+        let b : length q ≡ i = ap length a ∙ length-take-le i l (omega arith) in
+        odd_short (length l) l q (omega arith) (ap (λ n. take n l) b ∙ sym a)
 
 -- they are the same as far as that
 abbrev pub Ties : List ℕ → List ℕ → Type 0
@@ -106,6 +117,12 @@ ties_before i l q h (e, f) =
 pub ties_same : (l q : List ℕ) → l ≡ q → Ties l q
 ties_same l q e = (omega (arith, ap length e), ap (λ n. take n q) (ap length e) ∙ take_all (length q) q (omega arith) ∙ sym e)
 
+pub odd_past : (m : ℕ) (l : List ℕ) → odd_at m l [] ≡ []
+unfolding odd_at
+odd_past zero l = refl
+odd_past (suc m) [] = refl
+odd_past (suc m) (x ∷ l) = refl
+
 odd_none : (m : ℕ) (l q : List ℕ) → m ≡ 0 → odd_at m l q ≡ []
 unfolding odd_at
 odd_none m l q e = rw e
@@ -117,38 +134,23 @@ odd_by_tie l q None t none = odd_none (length l) l q (elim (cases_lt 0 (length l
 
 -- AT PLACES
 
-module _ (bs : List ℕ) (last reach at : ℕ) (h : last + reach ≤ length bs) (k : at ≤ length bs) where
-  reached_length : length (take (last + reach - last) (drop last bs)) ≡ reach
-  reached_length = length-take-le (last + reach - last) (drop last bs) (rw (length-drop last bs) (omega arith)) ∙ (let z : last + reach - last ≡ reach = omega arith in z)
+-- where the bytes from a place on are at odds with those of a key from another one on, as far as it reaches
+abbrev pub OddTold : List ℕ → ℕ → ℕ → ℕ → Option ℕ → Type 0
+OddTold bs last reach at (Some j) = (odd_at reach (drop last bs) (drop at bs) ≡ j ∷ []) × (j < reach)
+OddTold bs last reach at None = odd_at reach (drop last bs) (drop at bs) ≡ []
 
-  odd_moved : odd_at (length (take (last + reach - last) (drop last bs))) (take (last + reach - last) (drop last bs)) (take (length bs - at) (drop at bs)) ≡ odd_at reach (drop last bs) (drop at bs)
-  odd_moved =
-      ap (λ q. odd_at (length (take (last + reach - last) (drop last bs))) (take (last + reach - last) (drop last bs)) q) (take_all (length bs - at) (drop at bs) (rw (length-drop at bs) (omega arith)))
-      ∙ ap (λ m. odd_at m (take (last + reach - last) (drop last bs)) (drop at bs)) reached_length ∙ odd_part bs last (last + reach - last) reach (drop at bs) (omega arith) (omega arith)
+module _ (bs : List ℕ) (last reach at : ℕ) (h : last + reach ≤ length bs) where
+  reached_length : length (slice_range bs last (last + reach)) ≡ reach
+  reached_length = part_length bs last (last + reach) (omega arith) h ∙ (let z : last + reach - last ≡ reach = omega arith in z)
 
-  pub odd_placed : (r : Option ℕ) → OddOf (take (last + reach - last) (drop last bs)) (take (length bs - at) (drop at bs)) r → OddTold bs last reach at r
-  odd_placed (Some j) (e, l) = (sym odd_moved ∙ e, (let z = reached_length in omega arith))
-  odd_placed None e = sym odd_moved ∙ e
+  odd_moved : (q : List ℕ) → odd_at (length (slice_range bs last (last + reach))) (slice_range bs last (last + reach)) q ≡ odd_at reach (drop last bs) q
+  odd_moved q = ap (λ m. odd_at m (slice_range bs last (last + reach)) q) reached_length ∙ odd_part bs last (last + reach - last) reach q (omega arith) (omega arith)
 
--- BY WHERE TWO KEYS PART, whatever comes after the next one
+  pub odd_placed : (r : Option ℕ) → OddOf (slice_range bs last (last + reach)) (drop at bs) r → OddTold bs last reach at r
+  odd_placed (Some j) (e, l) = (sym (odd_moved (drop at bs)) ∙ e, (let z = reached_length in omega arith))
+  odd_placed None e = sym (odd_moved (drop at bs)) ∙ e
 
-pub apart_larger : (m i : ℕ) (l q x : List ℕ) → i < m → Apart i l q → odd_at m l (q ++ x) ≡ []
-unfolding Apart odd_at
-apart_larger zero i l q x h a = absurd (omega arith)
-apart_larger (suc m) i [] q x h a = absurd a
-apart_larger (suc m) i (y ∷ l) [] x h a = absurd a
-apart_larger (suc m) zero (y ∷ l) (b ∷ q) x h a = rw (le-ltb b y (omega arith), lt-ltb y b a)
-apart_larger (suc zero) (suc i) (y ∷ l) (b ∷ q) x h a = absurd (omega arith)
-apart_larger (suc (suc m)) (suc i) (y ∷ l) (b ∷ q) x h (e, a) = odd_same (suc m) y b l (q ++ x) e ∙ rw (apart_larger (suc m) i l q x (omega arith) a)
-
-apart_smaller : (m i : ℕ) (l q x : List ℕ) → i < m → Apart i q l → odd_at m l (q ++ x) ≡ i ∷ []
-unfolding Apart odd_at
-apart_smaller zero i l q x h a = absurd (omega arith)
-apart_smaller (suc m) i l [] x h a = absurd a
-apart_smaller (suc m) i [] (b ∷ q) x h a = absurd a
-apart_smaller (suc m) zero (y ∷ l) (b ∷ q) x h a = rw (lt-ltb b y a)
-apart_smaller (suc zero) (suc i) (y ∷ l) (b ∷ q) x h a = absurd (omega arith)
-apart_smaller (suc (suc m)) (suc i) (y ∷ l) (b ∷ q) x h (e, a) = odd_same (suc m) y b l (q ++ x) (sym e) ∙ rw (apart_smaller (suc m) i l q x (omega arith) a)
+-- BY WHERE TWO KEYS PART, when one comes after the other
 
 apart_tie : (m i : ℕ) (l q x : List ℕ) → 0 < m → m ≤ i → Apart i q l → odd_at m l (q ++ x) ≡ (m - 1) ∷ []
 unfolding Apart

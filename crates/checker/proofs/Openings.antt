@@ -1,25 +1,27 @@
 -- Heads that are read are those that the walk tells.
-use Rattle.std.proofs.Common.{◌≡◌, ℕ, suc, ◌+◌, ◌-◌, ◌*◌, ◌/◌, ◌%◌, ◌<◌, ◌≤◌, true, false, ◌&&◌, ◌||◌, ltb, leb, ◌⊎◌, List, [], ◌∷◌, ◌++◌, length, get_or, take, drop, Ok, Err, Result, sym, refl, ap, ◌∙◌, subst, inl, inr, arith, length-append}
-use Rattle.items.specs.declared.skipping.ItemHead.{ItemHead}
-use Rattle.checker.specs.declared.Stop.{Stop}
+use Rattle.std.proofs.Common.{◌≡◌, ℕ, suc, ◌+◌, ◌-◌, ◌*◌, ◌/◌, ◌%◌, ◌<◌, ◌≤◌, true, false, ◌&&◌, ◌||◌, ltb, leb, ◌⊎◌, List, [], ◌∷◌, ◌++◌, length, get_or, take, drop, Ok, Err, Result, MatchResult, sym, refl, ap, ◌∙◌, subst, inl, inr, arith, length-append}
 use Rattle.std.proofs.lemmas.List.{length-drop, drop_all, take_all, append-nil}
 use Rattle.std.proofs.lemmas.Bool.{lt-ltb, le-ltb, ltb-true, leb-true, and_parts, or_cases, cases_lt}
 use Rattle.cbor.specs.declared.Major.{Major}
 use Rattle.cbor.specs.declared.Major.TheVariants.{Unsigned, Negative, Bytes, Text, Array, Map, Tag, Simple}
 use Rattle.cbor.specs.Encoding.{all_bytes, major_number, to_bytes}
-use Rattle.cbor.specs.Prefix.{Begins, Any, PrefixFree, StopsAt, StandsAt}
-use Rattle.cbor.specs.Reading.{HeadOf}
+use Rattle.cbor.specs.Prefix.{Begins, Any, PrefixFree, StopsAt}
+use Rattle.cbor.specs.declared.reading.Head.{Head}
+use Rattle.cbor.specs.declared.reading.Stop.{Stop}
+use Rattle.cbor.specs.Reading.{HeadOf, HeadAt}
 use Rattle.cbor.proofs.Heads.{Sized, sized_head, head_shape, head_not_empty}
 use Rattle.cbor.proofs.Writes.{one_byte, major_below}
 use Rattle.cbor.proofs.Numbers.{bytes_drop}
 use Rattle.cbor.proofs.Places.{part_rest, at_first}
 use Rattle.cbor.proofs.Words.{free_two}
 use Rattle.prefixes.specs.Words.{Unread}
-use Rattle.prefixes.specs.Shapes.{HeadFits, HeadFor, major_of}
+use Rattle.prefixes.specs.Shapes.{HeadFor, major_of}
 use Rattle.prefixes.specs.Walks.{Told, done, cut, wrong, Holds, first_for, walk_one, walk_head}
 use Rattle.prefixes.proofs.Free.{fits_below, head_word_free, major_of_number}
 use Rattle.prefixes.proofs.Fronts.{head_holds}
-use Rattle.checker.specs.Ends.{Ended, Headed, Deep}
+use Rattle.reach.specs.Measured.{Ended}
+use Rattle.checker.specs.declared.Stop as checker
+use Rattle.checker.specs.Ends.{stop_within, Stops}
 use Rattle.checker.proofs.Verdicts.{told_wrong, told_cut}
 
 -- BY THE FIRST BYTE
@@ -134,11 +136,12 @@ module _ (bs : List ℕ) (at d r : ℕ) (bytes : all_bytes bs ≡ true) (inside 
         let (_, w) = back d r (get_or bs at 0) i (take p (drop at bs) ++ x) (take (p - 1) (drop (at + 1) bs) ++ x) byte a (begins_so p x h) in
         (i.1, subst (λ m. HeadOf m i.1 (take p (drop at bs) ++ x)) (sym major) w)
 
-    pub head_told : (n next : ℕ) → StandsAt (HeadOf (major_number k) n) bs at next → at < next → Ended bs at next (k, n) (walk_head d r (drop at bs))
-    head_told n next (h, l, w) o =
-        let u = take (next - at) (drop at bs) in
-        let a = fits d r (get_or bs at 0) k n u (take (next - at - 1) (drop (at + 1) bs) ++ []) says short w (sym (append-nil u) ∙ begins_so (next - at) [] (omega arith)) in
-        (h, l, told_head d r (drop at bs) u (drop next bs) (k, n) (walk_head d r (drop at bs)) holds a (part_rest bs at next h))
+    pub head_told : (x : Result Head Stop) → HeadAt (major_number k) bs at x → (h : Head) → x ≡ Ok h → Ended bs at h.next (k, h.argument) (walk_head d r (drop at bs))
+    head_told x is h e =
+        let ((m, l, w), o) = subst (HeadAt (major_number k) bs at) e is in
+        let u = take (h.next - at) (drop at bs) in
+        let a = fits d r (get_or bs at 0) k h.argument u (take (h.next - at - 1) (drop (at + 1) bs) ++ []) says short w (sym (append-nil u) ∙ begins_so (h.next - at) [] (omega arith)) in
+        (m, l, told_head d r (drop at bs) u (drop h.next bs) (k, h.argument) (walk_head d r (drop at bs)) holds a (part_rest bs at h.next m))
 
     module _ (place least : ℕ) (stops : StopsAt (Any (HeadOf (major_number k))) bs at place least) where
       later : 0 < place - at
@@ -159,15 +162,19 @@ module _ (bs : List ℕ) (at d r : ℕ) (bytes : all_bytes bs ≡ true) (inside 
       begins : Begins (Any (HeadFor d r)) (take (place - at) (drop at bs))
       begins = let (x, (n, w)) = stops.1.begins in (x, to_for n (place - at) x later w)
 
-      pub head_wrong : place < length bs → (at ≤ place) × (walk_head d r (drop at bs) ≡ wrong (place - at))
-      head_wrong h =
-          let l : place - at < length (drop at bs) = rw (length-drop at bs) (let z = stops.0 in omega arith) in
-          (stops.0, told_wrong (Any (HeadFor d r)) (HeadFor d r) (drop at bs) (walk_head d r (drop at bs)) (place - at) holds unread begins (λ (x, w). stops.1.ends l (x, from_for (suc (place - at)) x (omega arith) w)) l)
+      head_stops : Stops at (stop_within (length bs) place) (walk_head d r (drop at bs))
+      head_stops = elim (cases_lt place (length bs)) [
+        | inl h ↦
+            let l : place - at < length (drop at bs) = rw (length-drop at bs) (let z = stops.0 in omega arith) in
+            rw (lt-ltb place (length bs) h) (stops.0, told_wrong (Any (HeadFor d r)) (HeadFor d r) (drop at bs) (walk_head d r (drop at bs)) (place - at) holds unread begins (λ (x, w). stops.1.ends l (x, from_for (suc (place - at)) x (omega arith) w)) l)
+        | inr h ↦
+            let l : length (drop at bs) ≤ place - at = rw (length-drop at bs) (omega arith) in
+            rw (le-ltb place (length bs) h) (told_cut (Any (HeadFor d r)) (HeadFor d r) (drop at bs) (walk_head d r (drop at bs)) holds unread (subst (Begins (Any (HeadFor d r))) (take_all (place - at) (drop at bs) l) begins))
+      ]
 
-      pub head_cut : length bs ≤ place → walk_head d r (drop at bs) ≡ cut
-      head_cut h =
-          let l : length (drop at bs) ≤ place - at = rw (length-drop at bs) (omega arith) in
-          told_cut (Any (HeadFor d r)) (HeadFor d r) (drop at bs) (walk_head d r (drop at bs)) holds unread (subst (Begins (Any (HeadFor d r))) (take_all (place - at) (drop at bs) l) begins)
+    pub head_stopped : (x : Result Head Stop) → HeadAt (major_number k) bs at x → (s : checker.Stop) → MatchResult x (λ h. ⊥) (λ e. s ≡ stop_within (length bs) e.place) → Stops at s (walk_head d r (drop at bs))
+    head_stopped (Ok h) is s m = absurd m
+    head_stopped (Err e) is s m = rw m (head_stops e.place e.least is)
 
 -- no byte, or one that none begins with
 pub head_past : (bs : List ℕ) (at d r : ℕ) → length bs ≤ at → walk_head d r (drop at bs) ≡ cut
@@ -177,23 +184,6 @@ head_past bs at d r h = rw (drop_all at bs h)
 pub head_bad : (bs : List ℕ) (at d r : ℕ) → at < length bs → false ≡ first_for d r (get_or bs at 0) → (at ≤ at) × (walk_head d r (drop at bs) ≡ wrong (at - at))
 unfolding walk_head walk_one
 head_bad bs at d r h e = let x : at - at ≡ 0 = omega arith in (omega arith, rw (at_first bs at h, ← e, x))
-
--- arrays, maps and tags only where depth is left
-fits_deep : (d : ℕ) (k : Major) (n : ℕ) → HeadFits d k n → 4 ≤ major_number k → major_number k < 7 → 0 < d
-fits_deep d Unsigned n f a b = absurd (omega arith)
-fits_deep d Negative n f a b = absurd (omega arith)
-fits_deep d Bytes n f a b = absurd (omega arith)
-fits_deep d Text n f a b = absurd (omega arith)
-fits_deep d Array n f a b = f.1
-fits_deep d Map n f a b = f.1
-fits_deep d Tag n f a b = f.1
-fits_deep d Simple n f a b = absurd (omega arith)
-
-pub head_deep : (bs : List ℕ) (at d r : ℕ) (x : Result ItemHead Stop) → all_bytes bs ≡ true → Headed bs at x (walk_head d r (drop at bs)) → Deep d x
-head_deep bs at d r (Ok h) bytes (a, b, e) =
-    let w = subst (λ t. Holds (Any (HeadFor d r)) (HeadFor d r) (drop at bs) t) e (head_holds d r (drop at bs) (bytes_drop at bs bytes)) in
-    fits_deep d h.major h.argument w.1.0.1
-head_deep bs at d r (Err s) bytes h = tt
 
 -- SIMPLE VALUES FROM 32 ON
 

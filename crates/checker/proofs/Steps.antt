@@ -1,13 +1,24 @@
 -- One word after another, at places.
-use Rattle.std.proofs.Common.{◌≡◌, ℕ, ◌-◌, ◌<◌, ◌≤◌, List, length, take, drop, Ok, Err, Result, sym, ap, arith}
-use Rattle.std.proofs.lemmas.List.{length-drop, drop-drop}
+use Rattle.std.proofs.Common.{◌≡◌, ℕ, slice_range, ◌-◌, ◌<◌, ◌≤◌, true, List, length, get_or, take, drop, Some, None, Ok, Err, Option, Result, IfOk, Fits, w8, sym, ap, arith}
+use Rattle.std.specs.Option.{ok_or}
+use Rattle.std.proofs.lemmas.List.{length-drop, take_all, drop-drop}
 use Rattle.std.proofs.lemmas.Bool.{le-leb, lt-leb}
+use Rattle.cbor.specs.Encoding.{all_bytes}
+use Rattle.cbor.specs.Reading.{BytesEnd}
+use Rattle.cbor.proofs.Numbers.{bytes_typed}
 use Rattle.cbor.proofs.Places.{part_more, part_length}
 use Rattle.prefixes.specs.Words.{last_up}
 use Rattle.prefixes.specs.Walks.{Told, done, wrong, on_told, carry, retold, walk_bytes}
 use Rattle.checker.specs.declared.Stop.{Stop}
 use Rattle.checker.specs.declared.Stop.TheVariants.{Cut, Wrong}
-use Rattle.checker.specs.Ends.{Ended, Stops, Ends, BytesTold}
+use Rattle.reach.specs.Measured.{Ended}
+use Rattle.checker.specs.Ends.{Stops, Ends}
+
+pub typed : (bs : List ℕ) → ((i : ℕ) → Fits w8 (get_or bs i 0)) → all_bytes bs ≡ true
+typed bs h = bytes_typed bs (λ i. omega (arith, h i))
+
+pub rest_is : (bs : List ℕ) (at : ℕ) → slice_range bs at (length bs) ≡ drop at bs
+rest_is bs at = take_all (length bs - at) (drop at bs) (rw (length-drop at bs) (omega arith))
 
 abbrev wrong_of : (I : Type 0) → ℕ → Told I
 wrong_of I p = wrong p
@@ -33,12 +44,15 @@ retold_ends f bs at t (Err Cut) e = rw e
 retold_ends f bs at t (Err (Wrong p)) (a, e) = (a, rw e)
 
 -- so many bytes
-pub bytes_ends : (bs : List ℕ) (at n : ℕ) (r : Result ℕ Stop) → at ≤ length bs → BytesTold bs at n r → Ends bs at r (walk_bytes n (drop at bs))
-bytes_ends bs at n (Ok end) k (e, h) =
+pub bytes_ends : (bs : List ℕ) (at n : ℕ) (r : Option ℕ) → at ≤ length bs → BytesEnd n bs at r → Ends bs at (ok_or r Cut) (walk_bytes n (drop at bs))
+bytes_ends bs at n (Some end) k (e, h) =
     let l : n ≤ length (drop at bs) = rw (length-drop at bs) (omega arith) in
     let x : end - at ≡ n = omega arith in
     (last_up (take n (drop at bs)), (omega arith, h, rw (le-leb n (length (drop at bs)) l, x, drop-drop n at bs, e)))
-bytes_ends bs at n (Err Cut) k h =
+bytes_ends bs at n None k h =
     let l : length (drop at bs) < n = rw (length-drop at bs) (omega arith) in
     rw (lt-leb n (length (drop at bs)) l)
-bytes_ends bs at n (Err (Wrong p)) k h = absurd h
+
+pub ends_within : {I : Type 0} (bs : List ℕ) (at : ℕ) (r : Result ℕ Stop) (t : Told I) → Ends bs at r t → IfOk r (λ end. (at ≤ end) × (end ≤ length bs))
+ends_within bs at (Ok end) t (i, e) = (e.0, e.1)
+ends_within bs at (Err s) t e = tt

@@ -1,8 +1,10 @@
 -- The verdict on all of the bytes, by what the walk over them tells; what readers tell is what the walk tells.
-use Rattle.std.proofs.Common.{◌≡◌, ℕ, suc, ◌+◌, ◌-◌, ◌<◌, ◌≤◌, true, List, [], ◌∷◌, ◌++◌, length, take, drop, Some, None, Ok, Err, Result, sym, refl, ap, ◌∙◌, subst, inl, inr, append_assoc, arith, length-append, take-append-drop}
+use Rattle.std.proofs.Common.{◌≡◌, ℕ, slice_range, suc, ◌+◌, ◌-◌, ◌<◌, ◌≤◌, true, List, [], ◌∷◌, ◌++◌, length, take, drop, Some, None, Ok, Option, sym, refl, ap, ◌∙◌, subst, inl, inr, append_assoc, arith, length-append, take-append-drop}
+use Rattle.std.specs.Option.{ok_or}
 use Rattle.std.proofs.lemmas.List.{drop_more, drop_all, length-take-le, take_all, take-take, take_at, take-append-le, append-nil, append_cancel_left, nil_from_length, length-drop, drop-drop}
 use Rattle.std.proofs.lemmas.Bool.{cases_order}
 use Rattle.cbor.specs.Encoding.{all_bytes}
+use Rattle.cbor.specs.Reading.{BytesEnd}
 use Rattle.cbor.specs.Prefix.{Begins}
 use Rattle.cbor.proofs.Places.{part_length}
 use Rattle.cbor.specs.Utf8.{TextOf}
@@ -15,7 +17,9 @@ use Rattle.prefixes.proofs.Strings.{text_holds}
 use Rattle.prefixes.proofs.Verdict.{check_is_right}
 use Rattle.checker.specs.declared.Stop.{Stop}
 use Rattle.checker.specs.declared.Stop.TheVariants.{Cut, Wrong}
-use Rattle.checker.specs.Ends.{Stops, Ends, BytesTold}
+use Rattle.checker.specs.Checked.{Right}
+use Rattle.checker.proofs.Steps.{rest_is}
+use Rattle.checker.specs.Ends.{verdict_of, Stops, Ends}
 
 -- THE WHOLE
 
@@ -29,11 +33,9 @@ module _ (bs : List ℕ) (bytes : all_bytes bs ≡ true) (few : length bs < 1152
   pub is_past : (end : ℕ) → Ends bs 0 (Ok end) (walk 32 0 bs) → end < length bs → RightVerdict bs (wrong_at end)
   is_past end (i, (a, b, e)) h = verdict_is (wrong_at end) (rw (e, drop_more bs end 0 h) (ap (λ p. wrong_at p) (part_length bs 0 end a b ∙ (let z : end - 0 ≡ end = omega arith in z))))
 
-  pub is_prefix : (s : Stop) → s ≡ Cut → Stops 0 s (walk 32 0 bs) → RightVerdict bs short
-  is_prefix s q e = let z : walk 32 0 bs ≡ cut = subst (λ s. Stops 0 s (walk 32 0 bs)) q e in verdict_is short (rw z)
-
-  pub is_wrong : (s : Stop) (p : ℕ) → s ≡ Wrong p → Stops 0 s (walk 32 0 bs) → RightVerdict bs (wrong_at p)
-  is_wrong s p q e = let z = subst (λ s. Stops 0 s (walk 32 0 bs)) q e in verdict_is (wrong_at p) (rw z.1 (ap (λ p. wrong_at p) (let z : p - 0 ≡ p = omega arith in z)))
+  pub is_stop : (s : Stop) → Stops 0 s (walk 32 0 bs) → Right bs (verdict_of s)
+  is_stop Cut e = verdict_is short (rw e)
+  is_stop (Wrong p) (h, e) = verdict_is (wrong_at p) (rw e (ap (λ p. wrong_at p) (let z : p - 0 ≡ p = omega arith in z)))
 
 -- BY WHAT BEGINS A WORD
 
@@ -84,8 +86,8 @@ module _ (bs : List ℕ) (at n : ℕ) where
   none_shorter : (q : List ℕ) → length q < n → Unread (TextOf n) q
   none_shorter q l u rest (e, t) f = omega (arith, ap length f, length-append u rest)
 
-  pub text_wrong : (p : ℕ) → FirstWrong n (drop at bs) (Some p) → Stops at (Wrong (at + p)) (walk_text n n (drop at bs))
-  text_wrong p (h, l, b, ends) =
+  wrong_so : (p : ℕ) → FirstWrong n (drop at bs) (Some p) → Stops at (Wrong (at + p)) (walk_text n n (drop at bs))
+  wrong_so p (h, l, b, ends) =
       (omega arith, told_wrong (TextOf n) (λ m u. Reach (TextOf n) u m) (drop at bs) (walk_text n n (drop at bs)) p text_told unread b ends l ∙ ap (λ m. wrong m) (let z : p ≡ at + p - at = omega arith in z))
     where
       unread : Unread (TextOf n) (drop at bs)
@@ -93,8 +95,8 @@ module _ (bs : List ℕ) (at n : ℕ) where
           let g : take (suc p) (drop at bs) ≡ take (suc p) u = ap (take (suc p)) f ∙ take-append-le (suc p) u rest (omega arith) in
           ends (drop (suc p) u, subst (TextOf n) (sym (ap (λ x. x ++ drop (suc p) u) g ∙ take-append-drop (suc p) u)) (e, t))
 
-  pub text_goes_on : (r : Result ℕ Stop) → at ≤ length bs → FirstWrong n (drop at bs) None → BytesTold bs at n r → Ends bs at r (walk_text n n (drop at bs))
-  text_goes_on (Ok end) k (rest, (len, t)) (e, h) =
+  goes_so : (r : Option ℕ) → at ≤ length bs → FirstWrong n (drop at bs) None → BytesEnd n bs at r → Ends bs at (ok_or r Cut) (walk_text n n (drop at bs))
+  goes_so (Some end) k (rest, (len, t)) (e, h) =
       let q = drop at bs in
       let l : length (take n q) ≡ n = length-take-le n q (rw (length-drop at bs) (omega arith)) in
       let z : rest ≡ [] = nil_from_length rest (omega (arith, length-append (take n q) rest)) in
@@ -106,7 +108,12 @@ module _ (bs : List ℕ) (at n : ℕ) where
     where
       moved : drop n (drop at bs) ≡ drop end bs
       moved = drop-drop n at bs ∙ ap (λ m. drop m bs) (sym e)
-  text_goes_on (Err Cut) k b h =
+  goes_so None k b h =
       let l : length (drop at bs) < n = rw (length-drop at bs) (omega arith) in
       told_cut (TextOf n) (λ m u. Reach (TextOf n) u m) (drop at bs) (walk_text n n (drop at bs)) text_told (none_shorter (drop at bs) l) (subst (Begins (TextOf n)) (take_all n (drop at bs) (omega arith)) b)
-  text_goes_on (Err (Wrong p)) k b h = absurd h
+
+  pub text_wrong : (p : ℕ) → FirstWrong n (slice_range bs at (length bs)) (Some p) → Stops at (Wrong (at + p)) (walk_text n n (drop at bs))
+  text_wrong p first = wrong_so p (subst (λ q. FirstWrong n q (Some p)) (rest_is bs at) first)
+
+  pub text_goes_on : (r : Option ℕ) → at ≤ length bs → FirstWrong n (slice_range bs at (length bs)) None → BytesEnd n bs at r → Ends bs at (ok_or r Cut) (walk_text n n (drop at bs))
+  text_goes_on r k first = goes_so r k (subst (λ q. FirstWrong n q None) (rest_is bs at) first)

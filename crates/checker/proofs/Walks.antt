@@ -3,11 +3,11 @@ use Rattle.std.proofs.Common.{◌≡◌, ℕ, zero, suc, ◌-◌, ◌<◌, ◌�
 use Rattle.std.proofs.lemmas.Bool.{eq-eqb, ne_eqb, cases_eq}
 use Rattle.cbor.specs.declared.Major.{Major}
 use Rattle.cbor.specs.declared.Major.TheVariants.{Unsigned, Negative, Bytes, Text, Array, Map, Tag, Simple}
-use Rattle.cbor.specs.Encoding.{major_number}
 use Rattle.items.specs.declared.skipping.ItemHead.{ItemHead}
 use Rattle.prefixes.specs.Words.{joined, reach_of_head}
 use Rattle.prefixes.specs.Walks.{Told, done, cut, on_told, carry, walk_head, walk_body, walk_item, walk_bytes, walk_text, walk_many, walk_pairs, walk, after_of}
 use Rattle.checker.specs.declared.Stop.{Stop}
+use Rattle.reach.specs.Measured.{Deep}
 use Rattle.checker.specs.Ends.{Stops, Ends, Headed}
 use Rattle.checker.proofs.Steps.{then_ends, stop_ends, retold_ends}
 
@@ -38,22 +38,25 @@ module _ (bs : List ℕ) (at d r : ℕ) (h : ItemHead) (is : Headed bs at (Ok h)
       (then_ends bs at h.next (h.major, h.argument) (walk_head d r (drop at bs)) (λ i u rest. walk_body (inner d) r i.0 i.1 rest) (λ i u m. (joined (reach_of_head u) (length u) m.0, after_of i.0 i.1 m.1)) is x
       (subst (λ k. Ends bs h.next x (walk_body (inner d) r k h.argument (drop h.next bs))) (sym e) g))
 
+  deep : (m : Major) → h.major ≡ m → Deep d h.major → Deep d m
+  deep m e l = subst (λ m. Deep d m) e l
+
   pub item_bytes : h.major ≡ Bytes → (x : Result ℕ Stop) → Ends bs h.next x (walk_bytes h.argument (drop h.next bs)) → Ends bs at x (walk d r (drop at bs))
   item_bytes e x g = item_on Bytes e x (retold_ends (λ m. (m, 0)) bs h.next (walk_bytes h.argument (drop h.next bs)) x g)
 
   pub item_text : h.major ≡ Text → (x : Result ℕ Stop) → Ends bs h.next x (walk_text h.argument h.argument (drop h.next bs)) → Ends bs at x (walk d r (drop at bs))
   item_text e x g = item_on Text e x (retold_ends (λ m. (m, 0)) bs h.next (walk_text h.argument h.argument (drop h.next bs)) x g)
 
-  pub item_array : h.major ≡ Array → 0 < d → (x : Result ℕ Stop) → Ends bs h.next x (walk_many (walk (d - 1) 0) h.argument (drop h.next bs)) → Ends bs at x (walk d r (drop at bs))
-  item_array e l x g = item_on Array e x (rw (inner_is d l) (retold_ends (λ m. (m, 0)) bs h.next (walk_many (walk (d - 1) 0) h.argument (drop h.next bs)) x g))
+  pub item_array : h.major ≡ Array → Deep d h.major → (x : Result ℕ Stop) → Ends bs h.next x (walk_many (walk (d - 1) 0) h.argument (drop h.next bs)) → Ends bs at x (walk d r (drop at bs))
+  item_array e l x g = item_on Array e x (rw (inner_is d (deep Array e l (omega arith) (omega arith))) (retold_ends (λ m. (m, 0)) bs h.next (walk_many (walk (d - 1) 0) h.argument (drop h.next bs)) x g))
 
-  pub item_map : h.major ≡ Map → 0 < d → (x : Result ℕ Stop) → Ends bs h.next x (walk_pairs (walk (d - 1)) h.argument [] (drop h.next bs)) → Ends bs at x (walk d r (drop at bs))
-  item_map e l x g = item_on Map e x (rw (inner_is d l) (retold_ends (λ m. (m, 0)) bs h.next (walk_pairs (walk (d - 1)) h.argument [] (drop h.next bs)) x g))
+  pub item_map : h.major ≡ Map → Deep d h.major → (x : Result ℕ Stop) → Ends bs h.next x (walk_pairs (walk (d - 1)) h.argument [] (drop h.next bs)) → Ends bs at x (walk d r (drop at bs))
+  item_map e l x g = item_on Map e x (rw (inner_is d (deep Map e l (omega arith) (omega arith))) (retold_ends (λ m. (m, 0)) bs h.next (walk_pairs (walk (d - 1)) h.argument [] (drop h.next bs)) x g))
 
-  pub item_tag : h.major ≡ Tag → 0 < d → (s : ℕ) → s ≡ cond (eqb h.argument 18446744073709551615) (r - 248) 0 → (x : Result ℕ Stop) → Ends bs h.next x (walk (d - 1) s (drop h.next bs)) → Ends bs at x (walk d r (drop at bs))
+  pub item_tag : h.major ≡ Tag → Deep d h.major → (s : ℕ) → s ≡ cond (eqb h.argument 18446744073709551615) (r - 248) 0 → (x : Result ℕ Stop) → Ends bs h.next x (walk (d - 1) s (drop h.next bs)) → Ends bs at x (walk d r (drop at bs))
   item_tag e l s q x g = elim (cases_eq h.argument 18446744073709551615) [
-    | inl k ↦ item_on Tag e x (rw (inner_is d l, eq-eqb h.argument 18446744073709551615 k) (subst (λ s. Ends bs h.next x (walk (d - 1) s (drop h.next bs))) (q ∙ rw (eq-eqb h.argument 18446744073709551615 k)) g))
-    | inr k ↦ item_on Tag e x (rw (inner_is d l, ne_eqb h.argument 18446744073709551615 k) (subst (λ s. Ends bs h.next x (walk (d - 1) s (drop h.next bs))) (q ∙ rw (ne_eqb h.argument 18446744073709551615 k)) g))
+    | inl k ↦ item_on Tag e x (rw (inner_is d (deep Tag e l (omega arith) (omega arith)), eq-eqb h.argument 18446744073709551615 k) (subst (λ s. Ends bs h.next x (walk (d - 1) s (drop h.next bs))) (q ∙ rw (eq-eqb h.argument 18446744073709551615 k)) g))
+    | inr k ↦ item_on Tag e x (rw (inner_is d (deep Tag e l (omega arith) (omega arith)), ne_eqb h.argument 18446744073709551615 k) (subst (λ s. Ends bs h.next x (walk (d - 1) s (drop h.next bs))) (q ∙ rw (ne_eqb h.argument 18446744073709551615 k)) g))
   ]
 
   none_ends : Ends bs h.next (Ok h.next) (plain (drop h.next bs))
@@ -73,23 +76,10 @@ many_more w (suc n) q h = let z : suc n - 1 ≡ n = omega arith in rw z
 pub many_stop : (w : List ℕ → Told (ℕ × ℕ)) (bs : List ℕ) (at n : ℕ) (s : Stop) → 0 < n → Stops at s (w (drop at bs)) → Stops at s (walk_many w n (drop at bs))
 many_stop w bs at n s h g = rw (many_more w n (drop at bs) h) (stop_ends at (w (drop at bs)) _ s g)
 
-pub many_step : (w : List ℕ → Told (ℕ × ℕ)) (bs : List ℕ) (at n end : ℕ) → 0 < n → Ends bs at (Ok end) (w (drop at bs)) → (r : Result ℕ Stop) → Ends bs end r (walk_many w (n - 1) (drop end bs)) → Ends bs at r (walk_many w n (drop at bs))
-many_step w bs at n end h (i, e) r g = rw (many_more w n (drop at bs) h) (then_ends bs at end i (w (drop at bs)) (λ i u rest. walk_many w (n - 1) rest) (λ i u m. joined i.0 (length u) m) e r g)
+pub many_step : (w : List ℕ → Told (ℕ × ℕ)) (bs : List ℕ) (at n m end : ℕ) → n ≡ suc m → Ends bs at (Ok end) (w (drop at bs)) → (r : Result ℕ Stop) → Ends bs end r (walk_many w m (drop end bs)) → Ends bs at r (walk_many w n (drop at bs))
+unfolding walk_many
+many_step w bs at n m end h (i, e) r g = rw h (then_ends bs at end i (w (drop at bs)) (λ i u rest. walk_many w m rest) (λ i u m. joined i.0 (length u) m) e r g)
 
 pub many_none : (w : List ℕ → Told (ℕ × ℕ)) (bs : List ℕ) (at n : ℕ) → n ≡ 0 → at ≤ length bs → Ends bs at (Ok at) (walk_many w n (drop at bs))
 unfolding walk_many
 many_none w bs at n e h = let z : at - at ≡ 0 = omega arith in (0, (omega arith, h, rw (e, z)))
-
-pub plain_major : (m : Major) → (m ≡ Bytes → ⊥) → (m ≡ Text → ⊥) → (m ≡ Array → ⊥) → (m ≡ Map → ⊥) → (m ≡ Tag → ⊥) → (m ≡ Unsigned) ⊎ ((m ≡ Negative) ⊎ (m ≡ Simple))
-plain_major Unsigned a b c d e = inl refl
-plain_major Negative a b c d e = inr (inl refl)
-plain_major Bytes a b c d e = absurd (a refl)
-plain_major Text a b c d e = absurd (b refl)
-plain_major Array a b c d e = absurd (c refl)
-plain_major Map a b c d e = absurd (d refl)
-plain_major Tag a b c d e = absurd (e refl)
-plain_major Simple a b c d e = inr (inr refl)
-
--- what a head of such a major type says of the depth
-pub deep_of : (k m : Major) (d : ℕ) → m ≡ k → 4 ≤ major_number k → major_number k < 7 → (4 ≤ major_number m → major_number m < 7 → 0 < d) → 0 < d
-deep_of k m d e a b f = f (subst (λ x. 4 ≤ major_number x) (sym e) a) (subst (λ x. major_number x < 7) (sym e) b)

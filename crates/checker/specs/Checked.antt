@@ -1,5 +1,5 @@
 -- What checking tells.
-use Rattle.std.specs.Prelude.{ℕ, suc, ◌<◌, ◌≤◌, List, length, take, Ok, Err, Result}
+use Rattle.std.specs.Prelude.{ℕ, suc, ◌<◌, ◌≤◌, List, ◌++◌, length, take, Ok, Err, Result, codes, decimal}
 use Rattle.prefixes.specs.Verdict.{IsItem, IsPrefix}
 use Rattle.checker.specs.declared.Verdict.{Verdict}
 use Rattle.checker.specs.declared.Verdict.TheVariants.{Complete, Prefix, Wrong}
@@ -17,3 +17,14 @@ abbrev pub Checked : List ℕ → List ℕ → Result Verdict NotChecked → Typ
 Checked bs lent (Ok v) = (64 ≤ length lent) × (length bs < 1152921504606846976) × Right bs v
 Checked bs lent (Err TooLittleLent) = length lent < 64
 Checked bs lent (Err TooManyBytes) = 1152921504606846976 ≤ length bs
+
+-- a verdict in words, with the place of the first wrong byte in decimal
+abbrev pub line : Verdict → List ℕ
+line Complete = codes "complete"
+line Prefix = codes "prefix"
+line (Wrong p) = codes "wrong at " ++ decimal p
+
+-- why nothing is told, in words
+abbrev pub reason : NotChecked → List ℕ
+reason TooLittleLent = codes "fewer than " ++ decimal 64 ++ codes " numbers are lent"
+reason TooManyBytes = decimal 1152921504606846976 ++ codes " bytes or more"

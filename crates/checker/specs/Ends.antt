@@ -1,15 +1,22 @@
 -- What code tells of lent bytes from a place on, held to what the walk tells of the bytes that are left there.
-use Rattle.std.specs.Prelude.{◌≡◌, ℕ, ◌+◌, ◌-◌, ◌<◌, ◌≤◌, List, length, take, drop, Ok, Err, Result}
+use Rattle.std.specs.Prelude.{◌≡◌, ℕ, ◌-◌, ◌≤◌, cond, List, Ok, Err, Result, nat_lt}
 use Rattle.cbor.specs.declared.Major.{Major}
-use Rattle.cbor.specs.Encoding.{major_number}
 use Rattle.items.specs.declared.skipping.ItemHead.{ItemHead}
-use Rattle.prefixes.specs.Walks.{Told, done, cut, wrong}
+use Rattle.prefixes.specs.Walks.{Told, cut, wrong}
+use Rattle.reach.specs.Measured.{Ended}
 use Rattle.checker.specs.declared.Stop.{Stop}
+use Rattle.checker.specs.declared.Verdict.{Verdict}
+use Rattle.checker.specs.declared.Verdict.TheVariants as Verdicts
 use Rattle.checker.specs.declared.Stop.TheVariants.{Cut, Wrong}
 
--- a word from one place to another, and what it says
-abbrev pub Ended : {I : Type 0} → List ℕ → ℕ → ℕ → I → Told I → Type 0
-Ended bs at end i t = (at ≤ end) × (end ≤ length bs) × (t ≡ done i (take (end - at) (drop at bs)) (drop end bs))
+-- what a stop says of all of the bytes
+abbrev pub verdict_of : Stop → Verdict
+verdict_of Cut = Verdicts.Prefix
+verdict_of (Wrong p) = Verdicts.Wrong p
+
+-- a reader's stop at a place, of so many bytes
+abbrev pub stop_within : ℕ → ℕ → Stop
+stop_within n p = cond (nat_lt p n) (Wrong p) Cut
 
 abbrev pub Stops : {I : Type 0} → ℕ → Stop → Told I → Type 0
 Stops at Cut t = t ≡ cut
@@ -23,14 +30,3 @@ Ends bs at (Err s) t = Stops at s t
 abbrev pub Headed : List ℕ → ℕ → Result ItemHead Stop → Told (Major × ℕ) → Type 0
 Headed bs at (Ok h) t = Ended bs at h.next (h.major, h.argument) t
 Headed bs at (Err s) t = Stops at s t
-
--- arrays, maps and tags only where depth is left
-abbrev pub Deep : ℕ → Result ItemHead Stop → Type 0
-Deep d (Ok h) = 4 ≤ major_number h.major → major_number h.major < 7 → 0 < d
-Deep d (Err s) = Unit {0}
-
--- so many bytes, or fewer
-abbrev pub BytesTold : List ℕ → ℕ → ℕ → Result ℕ Stop → Type 0
-BytesTold bs at n (Ok end) = (end ≡ at + n) × (end ≤ length bs)
-BytesTold bs at n (Err Cut) = length bs < at + n
-BytesTold bs at n (Err (Wrong p)) = ⊥

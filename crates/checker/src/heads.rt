@@ -1,12 +1,13 @@
 // The head of an item, by how deep it stands and how many keys have to come after it.
-ghost use Rattle.std.specs.Prelude.{◌≡◌, ℕ, ◌<◌, true, length, drop, slice_index};
+ghost use Rattle.std.specs.Prelude.{◌≡◌, ℕ, ◌<◌, true, length, drop, slice_index, IfOk};
 ghost use Rattle.prefixes.specs.Walks.{first_for, walk_head};
-ghost use Rattle.checker.specs.Ends.{Headed, Deep};
+ghost use Rattle.reach.specs.Measured.{Deep};
+ghost use Rattle.checker.specs.Ends.{stop_within, Headed};
 
 use crate::Stop;
 use cbor::Major;
-use cbor::reading::read_head;
-use items::skipping::{ItemHead, major_of};
+use cbor::reading::{self, read_head};
+use items::skipping::ItemHead;
 
 // Whether an item may begin so.
 fn may_begin(first: u8, depth: u8, demand: u64) -> bool
@@ -28,13 +29,13 @@ fn may_begin(first: u8, depth: u8, demand: u64) -> bool
 fn long_simple(bytes: &[u8], at: usize, demand: u64) -> Result<ItemHead, Stop>
     requires at_in_bounds { at < length bytes.now }
     requires at_value { slice_index bytes.now at ≡ 248 }
-    ensures { (depth : ℕ) → first_for depth demand 248 ≡ true → Headed bytes.now at result (walk_head depth demand (drop at bytes.now)) }
+    ensures deep { IfOk result (λ head. (depth : ℕ) → Deep depth head.major) }
+    ensures told { (depth : ℕ) → first_for depth demand 248 ≡ true → Headed bytes.now at result (walk_head depth demand (drop at bytes.now)) }
 {
     let place = at + 1;
-    if place >= bytes.len() {
+    let Some(&value) = bytes.get(place) else {
         return Err(Stop::Cut);
-    }
-    let value = bytes[place];
+    };
     if value < 32 || u64::from(255 - value) < demand {
         return Err(Stop::Wrong(place));
     }
@@ -45,28 +46,35 @@ fn long_simple(bytes: &[u8], at: usize, demand: u64) -> Result<ItemHead, Stop>
     })
 }
 
+// A reader that stops at a byte finds it wrong, and one that stops where there is none misses it.
+fn stop_within(bytes: &[u8], stop: reading::Stop) -> Stop
+    ensures { result ≡ stop_within (length bytes.now) stop.place }
+{
+    if stop.place < bytes.len() {
+        Stop::Wrong(stop.place)
+    } else {
+        Stop::Cut
+    }
+}
+
 pub(crate) fn head_of(bytes: &[u8], at: usize, depth: u8, demand: u64) -> Result<ItemHead, Stop>
     ensures told { Headed bytes.now at result (walk_head depth demand (drop at bytes.now)) }
-    ensures deep { Deep depth result }
+    ensures deep { IfOk result (λ head. Deep depth head.major) }
 {
-    if at >= bytes.len() {
+    let Some(&first) = bytes.get(at) else {
         return Err(Stop::Cut);
-    }
-    let first = bytes[at];
+    };
     if !may_begin(first, depth, demand) {
         return Err(Stop::Wrong(at));
     }
     if first == 0xf8 {
         return long_simple(bytes, at, demand);
     }
-    let major = major_of(first >> 5);
-    match read_head(bytes, at, major) {
-        Ok(head) => Ok(ItemHead {
-            major,
-            argument: head.argument,
-            next: head.next,
-        }),
-        Err(stop) if stop.place < bytes.len() => Err(Stop::Wrong(stop.place)),
-        Err(_) => Err(Stop::Cut),
-    }
+    let major = Major::of_head(first);
+    let head = read_head(bytes, at, major).map_err(|stop| stop_within(bytes, stop))?;
+    Ok(ItemHead {
+        major,
+        argument: head.argument,
+        next: head.next,
+    })
 }

@@ -1,8 +1,9 @@
 // The keys of a map, each after the last.
-ghost use Rattle.std.specs.Prelude.{◌≡◌, ◌+◌, ◌<◌, ◌≤◌, true, false, length};
-ghost use Rattle.checker.specs.Keys.{AfterLast, Kept, KeyWithin, Misplaced, OddOf, OddTold, Refused};
+ghost use Rattle.std.specs.Prelude.{◌<◌, ◌≤◌, length, IfOk};
+ghost use Rattle.checker.specs.Keys.{AfterLast, Kept, KeyTold, KeyWithin, Misplaced, OddOf, OddWith, Refused};
 
-use crate::Stop;
+use crate::input::Input;
+use crate::{FRAME, Stop};
 use items::comparing::{Comparison, compare};
 use reach::measure;
 
@@ -13,33 +14,28 @@ pub(crate) struct KeySpan {
     pub(crate) end: usize,
 }
 
-// The last key, as a map keeps it; no key ends at 0.
-pub(crate) fn last_key(own: &[u64]) -> Option<KeySpan>
-    requires { 2 ≤ length own.now }
-    ensures { Kept own.now result }
+// The last key, as a map keeps it in its frame: two numbers of lent memory, since a library takes no other. No key ends at 0.
+pub(crate) fn last_key(own: [u64; FRAME]) -> Option<KeySpan>
+    ensures { Kept own result }
 {
-    if own[1] == 0 {
-        return None;
-    }
-    Some(KeySpan {
-        start: own[0] as usize,
-        end: own[1] as usize,
+    let [start, end] = own;
+    (end > 0).then_some(KeySpan {
+        start: start as usize,
+        end: end as usize,
     })
 }
 
 // Whether a whole key is after the last one, if there is one.
-pub(crate) fn comes_after(bytes: &[u8], last: Option<KeySpan>, at: usize, end: usize) -> bool
+fn comes_after(bytes: &[u8], last: Option<KeySpan>, at: usize, end: usize) -> bool
     requires at_le_end { (at ≤ end) × (end ≤ length bytes.now) }
     requires key_within { KeyWithin bytes.now last }
     ensures { AfterLast bytes.now last at end result }
 {
-    let Some(KeySpan { start, end: stop }) = last else {
+    let Some(last) = last else {
         return true;
     };
-    match compare(&bytes[start..stop], &bytes[at..end]) {
-        Comparison::Before(_) => true,
-        _ => false,
-    }
+    let order = compare(&bytes[last.start..last.end], &bytes[at..end]);
+    matches!(order, Comparison::Before(_))
 }
 
 // The first place at which a key is at odds with as much of the last one as it can pass.
@@ -48,58 +44,57 @@ fn odd_place(reached: &[u8], key: &[u8]) -> Option<usize>
 {
     match compare(reached, key) {
         Comparison::Before(index) if index < reached.len() => None,
-        Comparison::After(index) if index < key.len() => Some(index),
-        Comparison::After(_) => None,
-        Comparison::Before(_) => reached.len().checked_sub(1),
-        Comparison::Same => reached.len().checked_sub(1),
+        Comparison::After(index) => (index < key.len()).then_some(index),
+        Comparison::Before(_) | Comparison::Same => reached.len().checked_sub(1),
     }
 }
 
-// The same at places: the last key with its reach, and the bytes from the next one on.
-fn odd_at(bytes: &[u8], last: usize, reach: usize, at: usize) -> Option<usize>
-    requires reach_in_bounds { last + reach ≤ length bytes.now }
-    requires at_in_bounds { at ≤ length bytes.now }
-    ensures { OddTold bytes.now last reach at result }
+// The first place at which the bytes from one on are at odds with the last key, if there is one.
+fn odd_with(input: Input<'_>, last: Option<KeySpan>, depth: u8, at: usize) -> Option<usize>
+    ensures { OddWith input.entry.bytes.now depth last at result }
 {
-    let end = last + reach;
-    odd_place(&bytes[last..end], &bytes[at..])
+    let bytes = input.bytes;
+    let start = last?.start;
+    let reach = measure(bytes, start, depth)?.reach;
+    let index = odd_place(&bytes[start..start + reach], bytes.get(at..)?)?;
+    Some(at + index)
 }
 
 // Why a key that stops is refused: the earlier of its own stop and where it is at odds with the last one.
-pub(crate) fn stop_of(bytes: &[u8], last: Option<KeySpan>, depth: u8, at: usize, stop: Stop) -> Stop
-    requires bytes_len_bound { length bytes.now < 1152921504606846976 }
-    requires at_in_bounds { at ≤ length bytes.now }
-    ensures { Refused bytes.now depth last at stop result }
+fn stop_of(input: Input<'_>, last: Option<KeySpan>, depth: u8, at: usize, stop: Stop) -> Stop
+    ensures { Refused input.entry.bytes.now depth last at stop result }
 {
-    let Some(last) = last else {
-        return stop;
-    };
-    let Some(measured) = measure(bytes, last.start, depth) else {
-        return stop;
-    };
-    let Some(place) = odd_at(bytes, last.start, measured.reach, at) else {
+    let Some(odd) = odd_with(input, last, depth, at) else {
         return stop;
     };
     match stop {
-        Stop::Cut => Stop::Wrong(at + place),
-        Stop::Wrong(own) => Stop::Wrong(own.min(at + place)),
+        Stop::Cut => Stop::Wrong(odd),
+        Stop::Wrong(own) => Stop::Wrong(own.min(odd)),
     }
 }
 
 // Where a whole key that does not come after the last one is refused.
-pub(crate) fn misplaced_at(bytes: &[u8], last: Option<KeySpan>, depth: u8, at: usize) -> usize
-    requires bytes_len_bound { length bytes.now < 1152921504606846976 }
-    requires at_in_bounds { at ≤ length bytes.now }
-    ensures { Misplaced bytes.now depth last at result }
+fn misplaced_at(input: Input<'_>, last: Option<KeySpan>, depth: u8, at: usize) -> usize
+    ensures { Misplaced input.entry.bytes.now depth last at result }
 {
-    let Some(last) = last else {
-        return at;
-    };
-    let Some(measured) = measure(bytes, last.start, depth) else {
-        return at;
-    };
-    match odd_at(bytes, last.start, measured.reach, at) {
-        Some(place) => at + place,
-        None => at,
+    odd_with(input, last, depth, at).unwrap_or(at)
+}
+
+// Where a key ends that comes after the last one, by what is told of it whatever the last one is.
+pub(crate) fn key_end(
+    input: Input<'_>,
+    last: Option<KeySpan>,
+    depth: u8,
+    at: usize,
+    told: Result<usize, Stop>,
+) -> Result<usize, Stop>
+    requires end_in_bounds { IfOk told (λ end. (at ≤ end) × (end ≤ length input.bytes.now)) }
+    requires key_within { KeyWithin input.bytes.now last }
+    ensures { KeyTold input.entry.bytes.now depth last at told result }
+{
+    match told {
+        Ok(end) if comes_after(input.bytes, last, at, end) => Ok(end),
+        Ok(_) => Err(Stop::Wrong(misplaced_at(input, last, depth, at))),
+        Err(stop) => Err(stop_of(input, last, depth, at, stop)),
     }
 }

@@ -2,12 +2,18 @@
 
 #![tactic(auto)]
 
-ghost use Rattle.checker.specs.Checked.{Checked};
+ghost use Rattle.std.specs.Prelude.{◌≡◌, Some};
+ghost use Rattle.checker.specs.Checked.{Checked, line, reason};
+ghost use Rattle.checker.specs.Ends.{verdict_of};
 
+use input::Input;
 use items::skipping::DEPTH;
+use std::error::Error;
+use std::fmt;
 use walking::walk;
 
 mod heads;
+mod input;
 mod keys;
 mod walking;
 
@@ -17,27 +23,64 @@ pub const FRAME: usize = 2;
 // How many numbers are lent for all the maps that may be in one another.
 pub const LENT: usize = 64;
 
-// Bytes from 2^60 on are not looked at.
-pub const TOO_MANY_BYTES: usize = 1152921504606846976;
+pub use cbor::TOO_MANY_BYTES;
 
-#[derive(Clone, Copy)]
+#[derive(Clone, Copy, Debug, PartialEq, Eq)]
 pub enum Verdict {
     Complete,
     Prefix,
     Wrong(usize),
 }
 
-#[derive(Clone, Copy)]
+// The line of a verdict, without its line feed.
+impl fmt::Display for Verdict {
+    ghost output = { λ v. Some (line v) };
+
+    fn fmt<W: fmt::Write>(&self, f: &mut fmt::Formatter<W>) -> fmt::Result {
+        match self {
+            Verdict::Complete => write!(f, "complete"),
+            Verdict::Prefix => write!(f, "prefix"),
+            Verdict::Wrong(place) => write!(f, "wrong at {place}"),
+        }
+    }
+}
+
+#[derive(Clone, Copy, Debug, PartialEq, Eq)]
 pub enum NotChecked {
     TooLittleLent,
     TooManyBytes,
 }
 
+impl fmt::Display for NotChecked {
+    ghost output = { λ e. Some (reason e) };
+
+    fn fmt<W: fmt::Write>(&self, f: &mut fmt::Formatter<W>) -> fmt::Result {
+        match self {
+            NotChecked::TooLittleLent => write!(f, "fewer than {LENT} numbers are lent"),
+            NotChecked::TooManyBytes => write!(f, "{TOO_MANY_BYTES} bytes or more"),
+        }
+    }
+}
+
+impl Error for NotChecked {}
+
 // Why a walk over an item ends before the item does: all bytes that are there begin one, or none begins with this byte.
-#[derive(Clone, Copy)]
+// Not an Option of the place: ? hands it on as an error, and as None it would not say that all bytes are right so far.
+#[derive(Clone, Copy, Debug, PartialEq, Eq)]
 enum Stop {
     Cut,
     Wrong(usize),
+}
+
+impl From<Stop> for Verdict {
+    ghost from_gives = { λ stop v. v ≡ verdict_of stop };
+
+    fn from(stop: Stop) -> Verdict {
+        match stop {
+            Stop::Cut => Verdict::Prefix,
+            Stop::Wrong(place) => Verdict::Wrong(place),
+        }
+    }
 }
 
 pub fn check(bytes: &[u8], lent: &mut [u64]) -> Result<Verdict, NotChecked>
@@ -49,13 +92,11 @@ pub fn check(bytes: &[u8], lent: &mut [u64]) -> Result<Verdict, NotChecked>
     if bytes.len() >= TOO_MANY_BYTES {
         return Err(NotChecked::TooManyBytes);
     }
-    let stop = match walk(bytes, 0, DEPTH, 0, lent) {
-        Ok(end) if end < bytes.len() => return Ok(Verdict::Wrong(end)),
-        Ok(_) => return Ok(Verdict::Complete),
-        Err(stop) => stop,
-    };
-    match stop {
-        Stop::Cut => Ok(Verdict::Prefix),
-        Stop::Wrong(place) => Ok(Verdict::Wrong(place)),
+    let input = Input { bytes };
+    let (frames, _) = lent.as_chunks_mut::<FRAME>();
+    match walk(input, 0, DEPTH, 0, frames) {
+        Ok(end) if end < bytes.len() => Ok(Verdict::Wrong(end)),
+        Ok(_) => Ok(Verdict::Complete),
+        Err(stop) => Ok(stop.into()),
     }
 }

@@ -1,42 +1,34 @@
 // The walk over an item: where it ends, or why it stops before.
+//
+// Places stay plain: public functions take any place and hand back plain ends, so a place with its fact in its type would be made and taken
+// apart at each call. Nor are place, depth and frames one struct: the place moves on, the depth falls, and the frames are handed on by &mut.
 ghost use Rattle.std.specs.Prelude.{◌≡◌, ◌+◌, ◌-◌, ◌*◌, ◌<◌, ◌≤◌, [], length, drop, if◌then◌else◌, nat_eq};
 ghost use Rattle.prefixes.specs.Walks.{walk_text, walk_many, walk_pairs, walk as told};
-ghost use Rattle.checker.specs.Ends.{BytesTold, Ends};
+ghost use Rattle.checker.specs.Ends.{Ends};
 
 use crate::heads::head_of;
-use crate::keys::{KeySpan, comes_after, last_key, misplaced_at, stop_of};
+use crate::input::Input;
+use crate::keys::{key_end, last_key};
 use crate::{FRAME, Stop};
 use cbor::Major;
+use cbor::reading::bytes_end;
 use items::text::first_wrong;
-
-const MANY: u64 = 18446744073709551615;
-
-// Where so many bytes end.
-fn bytes_end(bytes: &[u8], at: usize, size: u64) -> Result<usize, Stop>
-    requires { at ≤ length bytes.now }
-    ensures { BytesTold bytes.now at size result }
-{
-    if size > (bytes.len() - at) as u64 {
-        return Err(Stop::Cut);
-    }
-    Ok(at + size as usize)
-}
 
 fn text_end(bytes: &[u8], at: usize, size: u64) -> Result<usize, Stop>
     requires { at ≤ length bytes.now }
     ensures { Ends bytes.now at result (walk_text size size (drop at bytes.now)) }
 {
-    if let Some(place) = first_wrong(&bytes[at..], size) {
-        return Err(Stop::Wrong(at + place));
+    match first_wrong(&bytes[at..], size) {
+        Some(index) => Err(Stop::Wrong(at + index)),
+        None => bytes_end(bytes, at, size).ok_or(Stop::Cut),
     }
-    bytes_end(bytes, at, size)
 }
 
 // How many have to come after what a tag is on: 248 come after the largest tag already.
 fn demand_in(number: u64, demand: u64) -> u64
     ensures { result ≡ (if nat_eq number 18446744073709551615 then demand - 248 else 0) }
 {
-    if number == MANY {
+    if number == u64::MAX {
         demand.saturating_sub(248)
     } else {
         0
@@ -46,55 +38,48 @@ fn demand_in(number: u64, demand: u64) -> u64
 // An item, of which so many more keys have to come after it, so deep.
 #[cycle(walking)]
 pub(crate) fn walk(
-    bytes: &[u8],
+    input: Input<'_>,
     at: usize,
     depth: u8,
     demand: u64,
-    lent: &mut [u64],
+    frames: &mut [[u64; FRAME]],
 ) -> Result<usize, Stop>
-    requires bytes_len_bound { length bytes.now < 1152921504606846976 }
-    requires depth_in_bounds { 2 * depth ≤ length lent.old }
-    ensures { Ends bytes.now at result (told depth demand (drop at bytes.now)) }
+    requires { depth ≤ length frames.old }
+    ensures { Ends input.entry.bytes.now at result (told depth demand (drop at input.entry.bytes.now)) }
 {
-    let head = head_of(bytes, at, depth, demand)?;
+    let head = head_of(input.bytes, at, depth, demand)?;
     match head.major {
-        Major::Bytes => bytes_end(bytes, head.next, head.argument),
-        Major::Text => text_end(bytes, head.next, head.argument),
-        Major::Array => walk_items(bytes, head.next, head.argument, depth - 1, lent),
-        Major::Map => walk_entries(bytes, head.next, head.argument, depth - 1, lent),
+        Major::Bytes => bytes_end(input.bytes, head.next, head.argument).ok_or(Stop::Cut),
+        Major::Text => text_end(input.bytes, head.next, head.argument),
+        Major::Array => walk_items(input, head.next, head.argument, depth - 1, frames),
+        Major::Map => walk_entries(input, head.next, head.argument, depth - 1, frames),
         Major::Tag => walk(
-            bytes,
+            input,
             head.next,
             depth - 1,
             demand_in(head.argument, demand),
-            lent,
+            frames,
         ),
-        _ => Ok(head.next),
+        Major::Unsigned | Major::Negative | Major::Simple => Ok(head.next),
     }
 }
 
 // So many items, one after the other.
 #[cycle(walking)]
 fn walk_items(
-    bytes: &[u8],
+    input: Input<'_>,
     at: usize,
     count: u64,
     depth: u8,
-    lent: &mut [u64],
+    frames: &mut [[u64; FRAME]],
 ) -> Result<usize, Stop>
-    requires at_in_bounds { at ≤ length bytes.now }
-    requires bytes_len_bound { length bytes.now < 1152921504606846976 }
-    requires depth_in_bounds { 2 * depth ≤ length lent.old }
-    ensures { Ends bytes.now at result (walk_many (told depth 0) count (drop at bytes.now)) }
+    requires at_in_bounds { at ≤ length input.bytes.now }
+    requires depth_in_bounds { depth ≤ length frames.old }
+    ensures { Ends input.entry.bytes.now at result (walk_many (told depth 0) count (drop at input.entry.bytes.now)) }
 {
     let mut next = at;
-    let mut left = count;
-    'items: loop {
-        if left == 0 {
-            break 'items;
-        }
-        next = walk(bytes, next, depth, 0, lent)?;
-        left -= 1;
+    for _ in 0..count {
+        next = walk(input, next, depth, 0, frames)?;
     }
     Ok(next)
 }
@@ -102,34 +87,25 @@ fn walk_items(
 // So many entries, one after the other, each key after the last.
 #[cycle(walking)]
 fn walk_entries(
-    bytes: &[u8],
+    input: Input<'_>,
     at: usize,
     count: u64,
     depth: u8,
-    lent: &mut [u64],
+    frames: &mut [[u64; FRAME]],
 ) -> Result<usize, Stop>
-    requires at_in_bounds { at ≤ length bytes.now }
-    requires bytes_len_bound { length bytes.now < 1152921504606846976 }
-    requires depth_in_bounds { 2 * depth + 2 ≤ length lent.old }
-    ensures { Ends bytes.now at result (walk_pairs (told depth) count [] (drop at bytes.now)) }
+    requires at_in_bounds { at ≤ length input.bytes.now }
+    requires depth_in_bounds { depth < length frames.old }
+    ensures { Ends input.entry.bytes.now at result (walk_pairs (told depth) count [] (drop at input.entry.bytes.now)) }
 {
-    let (own, rest) = lent.split_at_mut(FRAME);
-    own[1] = 0;
+    let (own, rest) = frames.split_first_mut().unwrap();
+    *own = [0, 0];
     let mut next = at;
-    let mut left = count;
-    'entries: while left > 0 {
-        left -= 1;
-        let last = last_key(own);
-        let end = match walk(bytes, next, depth, left, rest) {
-            Ok(end) => end,
-            Err(stop) => return Err(stop_of(bytes, last, depth, next, stop)),
-        };
-        if !comes_after(bytes, last, next, end) {
-            return Err(Stop::Wrong(misplaced_at(bytes, last, depth, next)));
-        }
-        own[0] = next as u64;
-        own[1] = end as u64;
-        next = walk(bytes, end, depth, 0, rest)?;
+    for left in (0..count).rev() {
+        let last = last_key(*own);
+        let key = walk(input, next, depth, left, rest);
+        let end = key_end(input, last, depth, next, key)?;
+        *own = [next as u64, end as u64];
+        next = walk(input, end, depth, 0, rest)?;
     }
     Ok(next)
 }

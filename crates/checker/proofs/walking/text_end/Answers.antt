@@ -1,19 +1,8 @@
-use Rattle.std.proofs.Common.{◌≡◌, ◌-◌, length, take, drop, Some, None, subst, arith}
-use Rattle.std.proofs.lemmas.List.{take_all, length-drop}
-use Rattle.items.specs.Text.{FirstWrong}
 use Rattle.checker.proofs.Verdicts.{text_wrong, text_goes_on}
 use Rattle.checker.proofs.walking.text_end.Goals as goal
 
 pub returns-in-Some : goal.returns-in-Some
-returns-in-Some c =
-    let bs = c.args.bytes.now in
-    let at = c.args.at in
-    let e : take (length bs - at) (drop at bs) ≡ drop at bs = take_all (length bs - at) (drop at bs) (rw (length-drop at bs) (omega arith)) in
-    text_wrong bs at c.args.size c.in-Some.place (subst (λ q. FirstWrong c.args.size q (Some c.in-Some.place)) e c.in-Some.ensures)
+returns-in-Some c = text_wrong c.args.bytes.now c.args.at c.args.size c.in-Some.index c.in-Some.ensures
 
-pub returns : goal.returns
-returns c =
-    let bs = c.args.bytes.now in
-    let at = c.args.at in
-    let e : take (length bs - at) (drop at bs) ≡ drop at bs = take_all (length bs - at) (drop at bs) (rw (length-drop at bs) (omega arith)) in
-    text_goes_on bs at c.args.size c.bytes_end.result c.requires (subst (λ q. FirstWrong c.args.size q None) e c.in_default.ensures) c.bytes_end.ensures
+pub returns-in-None : goal.returns-in-None
+returns-in-None c = rw c.ok_or.ensures.value (text_goes_on c.args.bytes.now c.args.at c.args.size c.bytes_end.result c.requires c.in-None.ensures c.bytes_end.ensures)
