@@ -1,17 +1,23 @@
 -- The refusal of a request is the right answer.
-use Rattle.std.proofs.Common.{◌≡◌, ℕ, ◌+◌, ◌≤◌, List, [], ◌∷◌, ◌++◌, length, take, drop, Some, sym, refl, ap, ◌∙◌, inl, inr, append_assoc, arith, length-append, take-append-drop}
+use Rattle.std.proofs.Common.{◌≡◌, ℕ, ◌+◌, ◌≤◌, false, List, [], ◌∷◌, ◌++◌, length, take, drop, Some, None, Ok, Err, Result, sym, refl, ap, ◌∙◌, inl, inr, append_assoc, arith, length-append, take-append-drop}
+use Rattle.sequence.specs.declared.reading.Parsed.{Parsed}
+use Rattle.request.specs.declared.reading.Request.{Request}
 use Rattle.request.specs.declared.answers.Refusal.{Refusal}
 use Rattle.request.specs.declared.answers.Refusal.TheVariants.{NotARequest, TooLarge, Unsound, Circular, NotOneItem, NotOffered}
 use Rattle.request.specs.declared.answers.Answer.TheVariants.{Refused}
+use Rattle.std.specs.Result.{MatchResult, IsErrAnd}
 use Rattle.std.proofs.lemmas.List.{append-nil}
+use Rattle.cbor.specs.declared.reading.Stop.{Stop}
+use Rattle.cbor.specs.Prefix.{Any}
+use Rattle.cbor.proofs.Words.{stops_lower}
 use Rattle.cbor.specs.Encoding.{head}
 use Rattle.sequence.specs.Token.{num, str, token_bytes, spell}
 use Rattle.schema.specs.Verdict.{Readable}
-use Rattle.request.specs.Asked.{Asked, check, find, fit, write, Writable}
-use Rattle.request.specs.Reading.{RulesThere}
+use Rattle.request.specs.Asked.{Asked, check, find, fit, write, Writable, IsRequest}
+use Rattle.request.specs.Reading.{RequestAt, RulesThere}
 use Rattle.answer.specs.declared.refusals.Offered.{Offered}
-use Rattle.answer.specs.Refusals.{Applies, order, First, FirstRefusal}
-use Rattle.answer.specs.Promise.{offered, RulesReadable, Right}
+use Rattle.answer.specs.Refusals.{offers, Applies, order, First, FirstRefusal}
+use Rattle.answer.specs.Promise.{offered, RulesReadable, RequestIn, Right}
 
 -- what is first of a list applies
 applies : (o : Offered) (xs : List Refusal) (a : Asked) (x : Refusal) → First o xs a (Some x) → Applies o x a
@@ -42,9 +48,26 @@ refused bs a n x l e w g f = by_refusal x f
     by_refusal NotOneItem f = (a, drop n bs, whole, w, has_rules a bs (drop n bs) whole w g, (f, refl))
     by_refusal NotOffered f = (a, drop n bs, whole, w, has_rules a bs (drop n bs) whole w g, (f, refl))
 
+-- while nothing is offered, a refusal applies to whatever is asked
+nothing_offered : (a : Asked) → offers offered a ≡ false
+nothing_offered (check item) = refl
+nothing_offered (find path item) = refl
+nothing_offered (fit rules which item) = refl
+
+pub some_refusal : (a : Asked) → FirstRefusal offered a None → ⊥
+some_refusal a (inl (h, e)) = h
+some_refusal a (inr (h, inl (f, e))) = absurd (cc)
+some_refusal a (inr (h, inr (f, g))) = f (nothing_offered a)
+
 -- rules lie within the bytes that they stand in
 pub rules_within : (bs rules : List ℕ) → RulesThere bs rules → 1 + length (head 2 (length rules)) + length rules ≤ length bs
 unfolding spell
 rules_within bs rules (b, (rest, e)) =
     let h = head 2 (length rules) in
     omega (arith, ap length e, length-append (spell (num 2 ∷ str rules ∷ [])) rest, length-append (token_bytes (num 2)) (token_bytes (str rules) ++ []), ap length (append-nil (token_bytes (str rules))), length-append h rules)
+
+-- what is read is told with the place alone
+pub request_told : (bs : List ℕ) (q : Result (Parsed Request) Stop) (r : Result (Parsed Request) ℕ) (P : Stop → ℕ → Type 0) → RequestAt bs q → ((rules : List ℕ) → RulesThere bs rules → Readable rules) → MatchResult q (λ x. r ≡ Ok x) (λ s. IsErrAnd r (P s)) → ((s : Stop) (p : ℕ) → P s p → p ≡ s.place) → RequestIn bs r
+request_told bs (Ok x) r P h g e f = rw e (h, g)
+request_told bs (Err s) (Ok x) P h g e f = absurd e
+request_told bs (Err s) (Err p) P h g e f = rw (f s p e) (inr (g, stops_lower (Any IsRequest) bs s.place s.least 0 (omega arith) h))

@@ -3,12 +3,14 @@
 use Rattle.std.specs.Prelude.{◌≡◌, ℕ, ◌+◌, ◌<◌, ◌≤◌, false, ◌⊎◌, List, ◌++◌, length, Some, None, Ok, Err, Option, Result}
 use Rattle.cbor.specs.Encoding.{head}
 use Rattle.cbor.specs.Prefix.{Any, Stops}
+use Rattle.sequence.specs.declared.reading.Parsed.{Parsed}
 use Rattle.schema.specs.Verdict.{Readable, Malformed}
+use Rattle.request.specs.declared.reading.Request.{Request}
 use Rattle.request.specs.declared.answers.Refusal.TheVariants.{NotARequest, TooLarge, Unsound, Circular, NotOneItem, NotOffered}
 use Rattle.request.specs.declared.answers.Answer.{Answer}
 use Rattle.request.specs.declared.answers.Answer.TheVariants.{Refused, Complete, Prefix, Wrong, Found, NotThere, Fits}
 use Rattle.request.specs.Asked.{Asked, check, find, fit, write, Writable, IsRequest}
-use Rattle.request.specs.Reading.{RulesThere}
+use Rattle.request.specs.Reading.{RulesThere, RequestAt}
 use Rattle.answer.specs.declared.TooLittleLent.{TooLittleLent}
 use Rattle.answer.specs.declared.refusals.Offered.{Offered}
 use Rattle.answer.specs.Refusals.{FirstRefusal}
@@ -48,6 +50,11 @@ RulesToldOf bs None = (rules : List ℕ) → RulesThere bs rules → Readable ru
 
 abbrev pub NoRequest : List ℕ → ℕ → Type 0
 NoRequest bs place = WrongRules bs place ⊎ (((rules : List ℕ) → RulesThere bs rules → Readable rules) × Stops (Any IsRequest) bs place 0)
+
+-- the request that the bytes begin with, of which rules that stand there whole are readable; or the place at which the bytes are no request
+abbrev pub RequestIn : List ℕ → Result (Parsed Request) ℕ → Type 0
+RequestIn bs (Ok x) = RequestAt bs (Ok x) × ((rules : List ℕ) → RulesThere bs rules → Readable rules)
+RequestIn bs (Err place) = NoRequest bs place
 
 abbrev pub Right : List ℕ → Answer → Type 0
 Right bs (Refused NotARequest place) = NoRequest bs place

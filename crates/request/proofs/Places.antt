@@ -1,60 +1,90 @@
 -- Steps, paths and requests at places of lent bytes.
-use Rattle.std.proofs.Common.{◌≡◌, ℕ, zero, suc, ◌-◌, ◌<◌, ◌≤◌, List, [], ◌∷◌, ◌++◌, length, take, drop, Ok, Err, Result, sym, refl, ap, ◌∙◌, subst, arith, length-append, take-append-drop, Bor}
+use Rattle.std.proofs.Common.{◌≡◌, ℕ, suc, ◌+◌, ◌-◌, ◌<◌, ◌≤◌, ◌⊎◌, List, [], ◌∷◌, ◌++◌, length, take, drop, Some, None, Ok, Err, Result, sym, refl, ap, inl, inr, ◌∙◌, subst, arith, length-append, take-append-drop, Bor}
+use Rattle.std.specs.Result.{IsErrAnd, result_ok}
 use Rattle.cbor.specs.declared.reading.Stop.{Stop}
 use Rattle.cbor.specs.Prefix.{Any, Stops}
 use Rattle.cbor.specs.Reading.{Stopped}
 use Rattle.cbor.proofs.Places.{part_length}
 use Rattle.std.proofs.lemmas.List.{take_at}
-use Rattle.sequence.specs.Token.{Token, num, str, spell, opcode, number, string, TokenOf}
+use Rattle.sequence.specs.Token.{Token, num, str, spell, Word, opcode, number, string, TokenOf}
 use Rattle.sequence.specs.Grammar.{next, Completes}
 use Rattle.sequence.specs.Reading.{TokenAt, SpelledAt, PendingStops}
 use Rattle.sequence.proofs.Grammars.{spelled_one, spelled_append, spelled_two, stop_first, stop_later, stop_after, none_stands, same_token}
+use Rattle.request.specs.declared.reading.Path.{Path}
+use Rattle.request.specs.declared.reading.Request.{Request}
 use Rattle.request.specs.declared.reading.Request.TheVariants.{Check, Find, Fit}
-use Rattle.request.specs.declared.reading.Taken.{Taken}
+use Rattle.request.specs.declared.reading.Kind.{Kind}
+use Rattle.request.specs.declared.reading.Kind.TheVariants.{Check as KindCheck, Find as KindFind}
+use Rattle.sequence.specs.declared.reading.Parsed.{Parsed}
 use Rattle.request.specs.Asked.{Step, Asked, check, find, fit, step_tokens, path_tokens, write, WritableStep, WritablePath}
-use Rattle.request.specs.Grammar.{Sort, a_request, a_path, a_step, a_string, many, shape, after_request, requests}
-use Rattle.request.specs.Reading.{Means, PathAt, RestAt, RequestAt, ReadsBack, RulesThere}
-use Rattle.request.proofs.Requests.{completable, step_takes, path_takes, stops_request, one_way}
+use Rattle.request.specs.Grammar.{Sort, a_request, a_path, a_step, a_string, many, shape, after_request, after_step, requests}
+use Rattle.request.specs.Reading.{kind_number, Means, StepAt, PathAt, RestAt, RequestAt, ReadsBack, RulesThere}
+use Rattle.request.proofs.Requests.{completable, step_takes, path_all_takes, stops_request, one_way}
+
+-- what is handed on where reading stops
+pub handed_on : {T : Type 0} (P : Result T Stop → Type 0) (r : Result T Stop) (s : Stop) → IsErrAnd r (λ x. x ≡ s) → P (Err s) → P r
+handed_on P (Ok x) s e h = absurd e
+handed_on P (Err x) s e h = rw e h
+
+-- what is told of a result, by its `ok`
+pub told_ok : {T : Type 0} (P : Result T Stop → Type 0) (r : Result T Stop) (x : T) → Some x ≡ result_ok r → P r → P (Ok x)
+told_ok P (Ok y) x e h = let z : x ≡ y = cc in rw z h
+told_ok P (Err s) x e h = absurd (cc)
+
+pub told_none : {T : Type 0} (P : Result T Stop → Type 0) (r : Result T Stop) → None ≡ result_ok r → P r → (s : Stop) × P (Err s)
+told_none P (Ok y) e h = absurd (cc)
+told_none P (Err s) e h = (s, h)
+
+-- STEPS
+
+pub step_stops : (bs : List ℕ) (at mid n : ℕ) (s : Sort) (stop : Stop) → after_step n ≡ s ∷ [] → TokenAt (opcode 2) (num n) bs at mid → Stopped (Any (TokenOf (shape s))) bs mid stop → StepAt bs at (Err stop)
+step_stops bs at mid n s stop e t h = λ ss. stop_later requests a_step ss (num n) bs at mid stop t.0 (rw e (stop_first requests completable s ss bs mid stop h))
 
 -- PATHS
 
-pub path_none : (bs : List ℕ) (at : ℕ) → at ≤ length bs → PathAt bs at 0 (Ok at)
-unfolding spell path_tokens WritablePath
-path_none bs at h = ([], refl, tt, (omega arith, h, ap (λ n. take n (drop at bs)) (let z : at - at ≡ 0 = omega arith in z)))
+-- so many steps up to a place
+abbrev pub StepsAt : List ℕ → ℕ → ℕ → Result ℕ Stop → Type 0
+StepsAt bs at n (Ok end) = (ps : List Step) × (length ps ≡ n) × WritablePath ps × SpelledAt (path_tokens ps) bs at end
+StepsAt bs at n (Err s) = (ss : List Sort) → PendingStops requests (many n a_step ++ ss) bs at s
 
-one_more : (bs : List ℕ) (at mid n : ℕ) (p : Step) (r : Result ℕ Stop) → WritableStep p → SpelledAt (step_tokens p) bs at mid → PathAt bs mid n r → PathAt bs at (suc n) r
+pub steps_none : (bs : List ℕ) (at : ℕ) → at ≤ length bs → StepsAt bs at 0 (Ok at)
+unfolding spell path_tokens WritablePath
+steps_none bs at h = ([], refl, tt, (omega arith, h, ap (λ n. take n (drop at bs)) (let z : at - at ≡ 0 = omega arith in z)))
+
+one_more : (bs : List ℕ) (at mid n : ℕ) (p : Step) (r : Result ℕ Stop) → WritableStep p → SpelledAt (step_tokens p) bs at mid → StepsAt bs mid n r → StepsAt bs at (suc n) r
 unfolding path_tokens WritablePath many
 one_more bs at mid n p (Ok end) w s (ps, l, v, t) = (p ∷ ps, ap suc l, (w, v), spelled_append (step_tokens p) (path_tokens ps) bs at mid end s t)
 one_more bs at mid n p (Err stop) w s f = λ ss. stop_after requests (a_step ∷ (many n a_step ++ ss)) (many n a_step ++ ss) (step_tokens p) bs at mid stop (step_takes p (many n a_step ++ ss) w) s (f ss)
 
-pub path_more : (bs : List ℕ) (at mid n : ℕ) (p : Step) (r : Result ℕ Stop) → 0 < n → WritableStep p → SpelledAt (step_tokens p) bs at mid → PathAt bs mid (n - 1) r → PathAt bs at n r
-path_more bs at mid zero p r z w s h = absurd (omega arith)
-path_more bs at mid (suc n) p r z w s h = one_more bs at mid n p r w s (subst (λ m. PathAt bs mid m r) (let y : suc n - 1 ≡ n = omega arith in y) h)
+-- after `k` of `count` steps, one more
+pub steps_more : (bs : List ℕ) (at mid count k : ℕ) (p : Step) (r : Result ℕ Stop) → k < count → WritableStep p → SpelledAt (step_tokens p) bs at mid → StepsAt bs mid (count - (k + 1)) r → StepsAt bs at (count - k) r
+steps_more bs at mid count k p r h w s f = subst (λ n. StepsAt bs at n r) (let z : suc (count - (k + 1)) ≡ count - k = omega arith in z) (one_more bs at mid (count - (k + 1)) p r w s f)
 
-pub path_stop : (bs : List ℕ) (at n : ℕ) (stop : Stop) → 0 < n → ((ss : List Sort) → PendingStops requests (a_step ∷ ss) bs at stop) → PathAt bs at n (Err stop)
+pub steps_stop : (bs : List ℕ) (at count k : ℕ) (stop : Stop) → k < count → ((ss : List Sort) → PendingStops requests (a_step ∷ ss) bs at stop) → StepsAt bs at (count - k) (Err stop)
 unfolding many
-path_stop bs at zero stop z h = absurd (omega arith)
-path_stop bs at (suc n) stop z h = λ ss. h (many n a_step ++ ss)
+steps_stop bs at count k stop h f = subst (λ n. StepsAt bs at n (Err stop)) (let z : suc (count - (k + 1)) ≡ count - k = omega arith in z) (λ ss. f (many (count - (k + 1)) a_step ++ ss))
+
+pub path_there : (bs : List ℕ) (at mid end n : ℕ) → TokenAt number (num n) bs at mid → StepsAt bs mid n (Ok end) → (ps : List Step) × ((length ps ≡ n) × (take (end - mid) (drop mid bs) ≡ spell (path_tokens ps))) × Word n × WritablePath ps × SpelledAt (num n ∷ path_tokens ps) bs at end
+path_there bs at mid end n c (ps, l, w, p) = (ps, (l, p.2), c.0.2.1, w, spelled_append (num n ∷ []) (path_tokens ps) bs at mid end (spelled_one number (num n) bs at mid c) p)
+
+pub path_stops : (bs : List ℕ) (at mid n : ℕ) (stop : Stop) → TokenAt number (num n) bs at mid → StepsAt bs mid n (Err stop) → PathAt bs at (Err stop)
+path_stops bs at mid n stop c h = λ ss. stop_later requests a_path ss (num n) bs at mid stop c.0 (h ss)
 
 -- REQUESTS
 
-pub check_there : (bs : List ℕ) (at end : ℕ) (item : Bor (List ℕ)) → TokenAt string (str item.now) bs at end → RestAt 0 (after_request 0) bs at (Ok (record { request = Check item; took = end }))
+pub check_there : (bs : List ℕ) (at end : ℕ) (item : Bor (List ℕ)) → TokenAt string (str item.now) bs at end → RestAt 0 (after_request 0) bs at (Ok (record { value = Check item; next = end }))
 check_there bs at end item t = (check item.now, str item.now ∷ [], refl, t.0.2.1, refl, spelled_one string (str item.now) bs at end t)
 
-pub find_there : (bs : List ℕ) (at mid from end n : ℕ) (steps item : Bor (List ℕ)) → steps.now ≡ take (from - mid) (drop mid bs) → TokenAt number (num n) bs at mid → PathAt bs mid n (Ok from) → TokenAt string (str item.now) bs from end → RestAt 1 (after_request 1) bs at (Ok (record { request = Find (record { count = n; steps = steps }) item; took = end }))
-find_there bs at mid from end n steps item e c (ps, l, w, p) t =
-    let ts = num n ∷ (path_tokens ps ++ str item.now ∷ []) in
-    (find ps item.now, ts, (ps, (l, e ∙ p.2), refl), (w, (let z = c.0.2.1 in omega arith), t.0.2.1), ap (λ k. num 1 ∷ num k ∷ (path_tokens ps ++ str item.now ∷ [])) l, spelled_append (num n ∷ []) (path_tokens ps ++ str item.now ∷ []) bs at mid end (spelled_one number (num n) bs at mid c) (spelled_append (path_tokens ps) (str item.now ∷ []) bs mid from end p (spelled_one string (str item.now) bs from end t)))
+pub find_there : (bs : List ℕ) (at mid end : ℕ) (path : Path) (item : Bor (List ℕ)) → PathAt bs at (Ok (record { value = path; next = mid })) → TokenAt string (str item.now) bs mid end → RestAt 1 (after_request 1) bs at (Ok (record { value = Find path item; next = end }))
+find_there bs at mid end path item (ps, (l, e), n, w, p) t =
+    let ts = num path.count ∷ path_tokens ps in
+    (find ps item.now, ts ++ str item.now ∷ [], (ps, (l, e), refl), (w, rw l n, t.0.2.1), ap (λ k. num 1 ∷ num k ∷ (path_tokens ps ++ str item.now ∷ [])) l, spelled_append ts (str item.now ∷ []) bs at mid end p (spelled_one string (str item.now) bs mid end t))
 
-pub find_path_stops : (bs : List ℕ) (at mid n : ℕ) (stop : Stop) → TokenAt number (num n) bs at mid → PathAt bs mid n (Err stop) → PendingStops requests (after_request 1) bs at stop
-find_path_stops bs at mid n stop c p = stop_later requests a_path (a_string ∷ []) (num n) bs at mid stop c.0 (p (a_string ∷ []))
+pub find_item_stops : (bs : List ℕ) (at mid : ℕ) (path : Path) (stop : Stop) → PathAt bs at (Ok (record { value = path; next = mid })) → PendingStops requests (a_string ∷ []) bs mid stop → PendingStops requests (after_request 1) bs at stop
+find_item_stops bs at mid path stop (ps, (l, e), n, w, p) s =
+    stop_after requests (a_path ∷ a_string ∷ []) (a_string ∷ []) (num path.count ∷ path_tokens ps) bs at mid stop (path_all_takes path.count ps (a_string ∷ []) l n w) p s
 
-pub find_item_stops : (bs : List ℕ) (at mid from n : ℕ) (stop : Stop) → TokenAt number (num n) bs at mid → PathAt bs mid n (Ok from) → PendingStops requests (a_string ∷ []) bs from stop → PendingStops requests (after_request 1) bs at stop
-find_item_stops bs at mid from n stop c (ps, l, w, p) s =
-    stop_later requests a_path (a_string ∷ []) (num n) bs at mid stop c.0
-    (subst (λ k. PendingStops requests (many k a_step ++ a_string ∷ []) bs mid stop) l (stop_after requests (many (length ps) a_step ++ a_string ∷ []) (a_string ∷ []) (path_tokens ps) bs mid from stop (path_takes ps (a_string ∷ []) w) p s))
-
-pub fit_there : (bs : List ℕ) (at mid from end n : ℕ) (rules item : Bor (List ℕ)) → TokenAt string (str rules.now) bs at mid → TokenAt number (num n) bs mid from → TokenAt string (str item.now) bs from end → RestAt 2 (after_request 2) bs at (Ok (record { request = Fit rules n item; took = end }))
+pub fit_there : (bs : List ℕ) (at mid from end n : ℕ) (rules item : Bor (List ℕ)) → TokenAt string (str rules.now) bs at mid → TokenAt number (num n) bs mid from → TokenAt string (str item.now) bs from end → RestAt 2 (after_request 2) bs at (Ok (record { value = Fit rules n item; next = end }))
 fit_there bs at mid from end n rules item r c t =
     (fit rules.now n item.now, str rules.now ∷ num n ∷ str item.now ∷ [], refl, (r.0.2.1, c.0.2.1, t.0.2.1), refl, spelled_append (str rules.now ∷ []) (num n ∷ str item.now ∷ []) bs at mid end (spelled_one string (str rules.now) bs at mid r) (spelled_two number string (num n) (str item.now) bs mid from end c t))
 
@@ -72,28 +102,25 @@ opened bs rules rest e =
 pub none_without_opcode : (bs rules : List ℕ) (stop : Stop) → Stopped (Any (TokenOf (opcode 2))) bs 0 stop → RulesThere bs rules → ⊥
 none_without_opcode bs rules stop h (b, (rest, e)) = none_stands (opcode 2) (num 2) (str rules ∷ []) bs 0 (length (spell (opening rules))) stop (omega arith, omega arith) (opened bs rules rest e) h
 
--- another one
-pub none_by_another : (bs rules : List ℕ) (n mid : ℕ) → TokenAt (opcode 2) (num n) bs 0 mid → (n ≡ 2 → ⊥) → RulesThere bs rules → ⊥
-none_by_another bs rules n mid t differ (b, (rest, e)) =
+-- the opcode there, and the rules after it
+after_opcode : (bs rules : List ℕ) (n mid : ℕ) → TokenAt (opcode 2) (num n) bs 0 mid → RulesThere bs rules → (n ≡ 2) × SpelledAt (str rules ∷ []) bs mid (length (spell (opening rules)))
+after_opcode bs rules n mid t (b, (rest, e)) =
     let (f, p) = same_token (opcode 2) (num n) (num 2) (str rules ∷ []) bs 0 mid (length (spell (opening rules))) t.0 (omega arith, omega arith) (opened bs rules rest e) in
-    differ (cc)
+    (cc, p)
 
--- no string after it
+pub none_of_another : (bs rules : List ℕ) (k : Kind) (mid : ℕ) → TokenAt (opcode 2) (num (kind_number k)) bs 0 mid → (k ≡ KindCheck) ⊎ (k ≡ KindFind) → RulesThere bs rules → ⊥
+none_of_another bs rules k mid t (inl e) h = let z = (after_opcode bs rules (kind_number k) mid t h).0 in let y : kind_number k ≡ 0 = ap kind_number e in omega arith
+none_of_another bs rules k mid t (inr e) h = let z = (after_opcode bs rules (kind_number k) mid t h).0 in let y : kind_number k ≡ 1 = ap kind_number e in omega arith
+
 pub none_without_string : (bs rules : List ℕ) (mid : ℕ) (stop : Stop) → TokenAt (opcode 2) (num 2) bs 0 mid → Stopped (Any (TokenOf string)) bs mid stop → RulesThere bs rules → ⊥
-none_without_string bs rules mid stop t h (b, (rest, e)) =
-    let (f, p) = same_token (opcode 2) (num 2) (num 2) (str rules ∷ []) bs 0 mid (length (spell (opening rules))) t.0 (omega arith, omega arith) (opened bs rules rest e) in
-    none_stands string (str rules) [] bs mid (length (spell (opening rules))) stop b p h
+none_without_string bs rules mid stop t h r = none_stands string (str rules) [] bs mid (length (spell (opening rules))) stop r.0 (after_opcode bs rules 2 mid t r).1 h
 
--- a string after it
 pub rules_there : (bs rules : List ℕ) (mid end : ℕ) → TokenAt (opcode 2) (num 2) bs 0 mid → TokenAt string (str rules) bs mid end → RulesThere bs rules × ((other : List ℕ) → RulesThere bs other → other ≡ rules)
 rules_there bs rules mid end t r =
     let p = spelled_two (opcode 2) string (num 2) (str rules) bs 0 mid end t r in
     let k : end - 0 ≡ end = omega arith in (
       (r.0.2.1, (drop end bs, sym (take-append-drop end bs) ∙ ap (λ u. u ++ drop end bs) (ap (λ j. take j bs) (sym k) ∙ p.2))),
-      λ other (b, (rest, e)).
-          let (f, q) = same_token (opcode 2) (num 2) (num 2) (str other ∷ []) bs 0 mid (length (spell (opening other))) t.0 (omega arith, omega arith) (opened bs other rest e) in
-          let (g, o) = same_token string (str rules) (str other) [] bs mid end (length (spell (opening other))) r.0 b q in
-          cc,
+      λ other h. let g = same_token string (str rules) (str other) [] bs mid end (length (spell (opening other))) r.0 h.0 (after_opcode bs other 2 mid t h).1 in let f = g.0 in cc,
     )
 
 -- from their first byte
@@ -103,19 +130,19 @@ from_start bs stop (h, s) = stops_request bs stop.place stop.least (let p : stop
 pub no_request : (bs : List ℕ) (stop : Stop) → Stopped (Any (TokenOf (shape a_request))) bs 0 stop → RequestAt bs (Err stop)
 no_request bs stop h = from_start bs stop (stop_first requests completable a_request [] bs 0 stop h)
 
-pub whole : (n : ℕ) (bs : List ℕ) (mid : ℕ) (r : Result Taken Stop) → TokenAt (opcode 2) (num n) bs 0 mid → RestAt n (next requests a_request (num n) ++ []) bs mid r → RequestAt bs r
+pub whole : (n : ℕ) (bs : List ℕ) (mid : ℕ) (r : Result (Parsed Request) Stop) → TokenAt (opcode 2) (num n) bs 0 mid → RestAt n (next requests a_request (num n) ++ []) bs mid r → RequestAt bs r
 whole n bs mid (Ok x) t (a, ts, m, w, e, p) =
-    let q = spelled_append (num n ∷ []) ts bs 0 mid x.took (spelled_one (opcode 2) (num n) bs 0 mid t) p in
-    (a, m, (ap (λ k. take k bs) (let z : x.took ≡ x.took - 0 = omega arith in z) ∙ q.2 ∙ ap spell (sym e), w), q.1)
+    let q = spelled_append (num n ∷ []) ts bs 0 mid x.next (spelled_one (opcode 2) (num n) bs 0 mid t) p in
+    (a, m, (ap (λ k. take k bs) (let z : x.next ≡ x.next - 0 = omega arith in z) ∙ q.2 ∙ ap spell (sym e), w), q.1)
 whole n bs mid (Err stop) t s = from_start bs stop (stop_later requests a_request [] (num n) bs 0 mid stop t.0 s)
 
 -- READ BACK
 
-pub reads_back : (bs : List ℕ) (r : Result Taken Stop) → RequestAt bs r → ReadsBack bs r
+pub reads_back : (bs : List ℕ) (r : Result (Parsed Request) Stop) → RequestAt bs r → ReadsBack bs r
 reads_back bs (Ok x) (b, m, (e, w), l) a rest v f =
-    let z = one_way b a (drop x.took bs) rest w v (ap (λ y. y ++ drop x.took bs) (sym e) ∙ take-append-drop x.took bs ∙ f) in
-    let n : x.took ≡ length (write a) = (let y = part_length bs 0 x.took (omega arith) l in let k : x.took ≡ x.took - 0 = omega arith in k ∙ sym y ∙ ap (λ j. length (take j bs)) (sym k) ∙ ap length e ∙ ap (λ j. length (write j)) z.0) in
-    (subst (λ j. Means x.request j) z.0 m, n)
+    let z = one_way b a (drop x.next bs) rest w v (ap (λ y. y ++ drop x.next bs) (sym e) ∙ take-append-drop x.next bs ∙ f) in
+    let n : x.next ≡ length (write a) = (let y = part_length bs 0 x.next (omega arith) l in let k : x.next ≡ x.next - 0 = omega arith in k ∙ sym y ∙ ap (λ j. length (take j bs)) (sym k) ∙ ap length e ∙ ap (λ j. length (write j)) z.0) in
+    (subst (λ j. Means x.value j) z.0 m, n)
 reads_back bs (Err stop) s a rest v f = s.unread (write a) rest (a, (refl, v)) f
 
 pub request_some : (a : Asked) → 0 < length (write a)

@@ -31,6 +31,11 @@ unfolding Takes many path_tokens WritablePath
 path_takes [] ss w = refl
 path_takes (p ∷ ps) ss (v, w) = takes_append requests (a_step ∷ (many (length ps) a_step ++ ss)) (many (length ps) a_step ++ ss) ss (step_tokens p) (path_tokens ps) (step_takes p (many (length ps) a_step ++ ss) v) (path_takes ps ss w)
 
+-- with how many steps it has
+pub path_all_takes : (n : ℕ) (ps : List Step) (ss : List Sort) → length ps ≡ n → Word n → WritablePath ps → Takes requests (a_path ∷ ss) (num n ∷ path_tokens ps) ss
+unfolding Takes
+path_all_takes n ps ss l w v = (w, subst (λ k. Takes requests (many k a_step ++ ss) (path_tokens ps) ss) l (path_takes ps ss v))
+
 pub request_takes : (a : Asked) → Writable a → Takes requests (a_request ∷ []) (tokens a) []
 unfolding Takes
 request_takes (check item) w = ((omega arith, omega arith), (w, refl))

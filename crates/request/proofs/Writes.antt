@@ -4,7 +4,7 @@ use Rattle.std.specs.Option.{SomeIff}
 use Rattle.std.proofs.lemmas.List.{append-nil}
 use Rattle.std.proofs.lemmas.Bool.{cases_lt}
 use Rattle.cbor.specs.Writing.{Writes}
-use Rattle.cbor.proofs.Writes.{writes_then, room_more}
+use Rattle.cbor.proofs.Writes.{writes_then}
 use Rattle.sequence.specs.Token.{num, str, token_bytes, spell}
 use Rattle.sequence.specs.Writing.{SizeOf}
 use Rattle.sequence.proofs.Grammars.{spell_append}
@@ -31,32 +31,17 @@ find_sum p item a (Some n) e (h, f) = omega (arith, heads_length p item)
 find_sum p item a None e h = elim (cases_lt (a + length p.steps.now) 18446744073709551616) [ inl l ↦ absurd (h l) | inr l ↦ omega (arith, heads_length p item) ]
 
 -- four strings, with room for all of them
-module _ (old u v w x : List ℕ) (at : ℕ) (room : at + length (u ++ (v ++ (w ++ x))) ≤ length old) where
-  lengths : length (u ++ (v ++ (w ++ x))) ≡ length u + (length v + (length w + length x))
-  lengths = length-append u (v ++ (w ++ x)) ∙ ap (λ n. length u + n) (length-append v (w ++ x) ∙ ap (λ n. length v + n) (length-append w x))
-
-  room_two : at + length (u ++ v) ≤ length old
-  room_two = omega (arith, lengths, length-append u v)
-
-  room_three : at + length ((u ++ v) ++ w) ≤ length old
-  room_three = omega (arith, lengths, length-append u v, length-append (u ++ v) w)
-
-  room_four : at + length (((u ++ v) ++ w) ++ x) ≤ length old
-  room_four = omega (arith, lengths, length-append u v, length-append (u ++ v) w, length-append ((u ++ v) ++ w) x)
-
-  pub second_fits : (o p : List ℕ) (next : ℕ) → Writes old at u o (Some next) → Writes o next v p None → ⊥
-  second_fits o p next a b = room_more old o p u v at next room_two a b
-
-  pub two_written : (o p : List ℕ) (next end : ℕ) → Writes old at u o (Some next) → Writes o next v p (Some end) → Writes old at (u ++ v) p (Some end)
-  two_written o p next end a b = writes_then old o p u v at next (Some end) room_two a b
-
-  pub third_fits : (o p : List ℕ) (next : ℕ) → Writes old at (u ++ v) o (Some next) → Writes o next w p None → ⊥
-  third_fits o p next a b = room_more old o p (u ++ v) w at next room_three a b
-
-  pub all_written : (o p q : List ℕ) (next end : ℕ) (r : Option ℕ) → Writes old at (u ++ v) o (Some next) → Writes o next w p (Some end) → Writes p end x q r → Writes old at (u ++ (v ++ (w ++ x))) q r
-  all_written o p q next end r a b c =
-      let d = writes_then old o p (u ++ v) w at next (Some end) room_three a b in
-      subst (λ y. Writes old at y q r) (append_assoc (u ++ v) w x ∙ append_assoc u v (w ++ x)) (writes_then old p q ((u ++ v) ++ w) x at end r room_four d c)
+pub four_written : (old o p q s u v w x : List ℕ) (at mid from end : ℕ) (r : Option ℕ) → at + length (u ++ (v ++ (w ++ x))) ≤ length old → Writes old at u o (Some mid) → Writes o mid v p (Some from) → Writes p from w q (Some end) → Writes q end x s r → Writes old at (u ++ (v ++ (w ++ x))) s r
+four_written old o p q s u v w x at mid from end r room a b c d =
+    let l = length-append u (v ++ (w ++ x)) in
+    let m = length-append v (w ++ x) in
+    let n = length-append w x in
+    let i = length-append u v in
+    let j = length-append (u ++ v) w in
+    let k = length-append ((u ++ v) ++ w) x in
+    let two = writes_then old o p u v at mid (Some from) (omega arith) a b in
+    let three = writes_then old p q (u ++ v) w at from (Some end) (omega arith) two c in
+    subst (λ y. Writes old at y s r) (append_assoc (u ++ v) w x ∙ append_assoc u v (w ++ x)) (writes_then old q s ((u ++ v) ++ w) x at end r (omega arith) three d)
 
 -- a request to find has the bytes of what it means
 pub find_meaning : (p : Path) (item : Bor (List ℕ)) (a : Asked) → Means (Find p item) a → request_bytes (Find p item) ≡ write a

@@ -3,19 +3,38 @@ use Rattle.std.specs.Prelude.{◌≡◌, ℕ, ◌<◌, ◌≤◌, List, [], ◌�
 use Rattle.std.specs.Borrow.{Bor}
 use Rattle.cbor.specs.declared.reading.Stop.{Stop}
 use Rattle.cbor.specs.Prefix.{Any, Stops}
-use Rattle.sequence.specs.Token.{Token, num, str, spell, ByteString}
-use Rattle.sequence.specs.Reading.{SpelledAt, PendingStops}
+use Rattle.cbor.specs.Reading.{Stopped}
+use Rattle.sequence.specs.Token.{Token, num, str, spell, Word, ByteString, opcode, TokenOf}
+use Rattle.sequence.specs.Reading.{TokenAt, SpelledAt, PendingStops}
 use Rattle.request.specs.declared.reading.Step.{Step as LentStep}
 use Rattle.request.specs.declared.reading.Step.TheVariants.{Index, Key, Content}
 use Rattle.request.specs.declared.reading.Path.{Path}
 use Rattle.request.specs.declared.reading.Request.{Request}
 use Rattle.request.specs.declared.reading.Request.TheVariants.{Check, Find, Fit}
-use Rattle.request.specs.declared.reading.NextStep.{NextStep}
-use Rattle.request.specs.declared.reading.Taken.{Taken}
+use Rattle.sequence.specs.declared.reading.Parsed.{Parsed}
+use Rattle.request.specs.declared.reading.StepKind.{StepKind}
+use Rattle.request.specs.declared.reading.StepKind.TheVariants.{Index as KindIndex, Key as KindKey, Content as KindContent}
+use Rattle.request.specs.declared.reading.Kind.{Kind}
+use Rattle.request.specs.declared.reading.Kind.TheVariants.{Check as KindCheck, Find as KindFind, Fit as KindFit}
 use Rattle.request.specs.declared.reading.Extent.{Extent}
 use Rattle.request.specs.declared.reading.Extent.TheVariants.{Complete, Incomplete, Wrong}
 use Rattle.request.specs.Asked.{Step, index, key, content, Asked, check, find, fit, step_tokens, path_tokens, tokens, write, WritableStep, WritablePath, Writable, IsRequest}
-use Rattle.request.specs.Grammar.{Sort, a_step, many, requests}
+use Rattle.request.specs.Grammar.{Sort, a_step, a_path, requests}
+
+-- the kinds of steps and of requests, by their numbers
+abbrev pub step_number : StepKind → ℕ
+step_number KindIndex = 0
+step_number KindKey = 1
+step_number KindContent = 2
+
+abbrev pub kind_number : Kind → ℕ
+kind_number KindCheck = 0
+kind_number KindFind = 1
+kind_number KindFit = 2
+
+abbrev pub KindAt : {K : Type 0} → (K → ℕ) → List ℕ → ℕ → Result (Parsed K) Stop → Type 0
+KindAt number bs at (Ok x) = TokenAt (opcode 2) (num (number x.value)) bs at x.next
+KindAt number bs at (Err s) = Stopped (Any (TokenOf (opcode 2))) bs at s
 
 -- a step, a path and a request, as parts of the lent bytes, stand for what is asked
 abbrev pub step_of : LentStep → Step
@@ -31,30 +50,31 @@ Means (Check item) a = a ≡ check item.now
 Means (Find path item) a = (ps : List Step) × PathOf path ps × (a ≡ find ps item.now)
 Means (Fit rules which item) a = a ≡ fit rules.now which item.now
 
-abbrev pub StepAt : List ℕ → ℕ → Result NextStep Stop → Type 0
-StepAt bs at (Ok x) = WritableStep (step_of x.step) × SpelledAt (step_tokens (step_of x.step)) bs at x.next
+abbrev pub StepAt : List ℕ → ℕ → Result (Parsed LentStep) Stop → Type 0
+StepAt bs at (Ok x) = WritableStep (step_of x.value) × SpelledAt (step_tokens (step_of x.value)) bs at x.next
 StepAt bs at (Err s) = (ss : List Sort) → PendingStops requests (a_step ∷ ss) bs at s
 
-abbrev pub PathAt : List ℕ → ℕ → ℕ → Result ℕ Stop → Type 0
-PathAt bs at n (Ok end) = (ps : List Step) × (length ps ≡ n) × WritablePath ps × SpelledAt (path_tokens ps) bs at end
-PathAt bs at n (Err s) = (ss : List Sort) → PendingStops requests (many n a_step ++ ss) bs at s
+-- a path, with how many steps it has
+abbrev pub PathAt : List ℕ → ℕ → Result (Parsed Path) Stop → Type 0
+PathAt bs at (Ok x) = (ps : List Step) × PathOf x.value ps × Word x.value.count × WritablePath ps × SpelledAt (num x.value.count ∷ path_tokens ps) bs at x.next
+PathAt bs at (Err s) = (ss : List Sort) → PendingStops requests (a_path ∷ ss) bs at s
 
 -- what stands after a request's first token
-abbrev pub RestAt : ℕ → List Sort → List ℕ → ℕ → Result Taken Stop → Type 0
-RestAt first ss bs at (Ok x) = (a : Asked) × (ts : List Token) × Means x.request a × Writable a × (tokens a ≡ num first ∷ ts) × SpelledAt ts bs at x.took
+abbrev pub RestAt : ℕ → List Sort → List ℕ → ℕ → Result (Parsed Request) Stop → Type 0
+RestAt first ss bs at (Ok x) = (a : Asked) × (ts : List Token) × Means x.value a × Writable a × (tokens a ≡ num first ∷ ts) × SpelledAt ts bs at x.next
 RestAt first ss bs at (Err s) = PendingStops requests ss bs at s
 
 -- the request that stands at the beginning of the bytes, and how many of them it took; or no request stands there, and they cease to begin one at a place
-abbrev pub RequestAt : List ℕ → Result Taken Stop → Type 0
-RequestAt bs (Ok x) = (a : Asked) × Means x.request a × IsRequest a (take x.took bs) × (x.took ≤ length bs)
+abbrev pub RequestAt : List ℕ → Result (Parsed Request) Stop → Type 0
+RequestAt bs (Ok x) = (a : Asked) × Means x.value a × IsRequest a (take x.next bs) × (x.next ≤ length bs)
 RequestAt bs (Err s) = Stops (Any IsRequest) bs s.place s.least
 
 -- a request that was written is read as itself, with how many bytes it took, whatever comes after
-abbrev pub IsRead : Asked → ℕ → Result Taken Stop → Type 0
-IsRead a n (Ok x) = Means x.request a × (x.took ≡ n)
+abbrev pub IsRead : Asked → ℕ → Result (Parsed Request) Stop → Type 0
+IsRead a n (Ok x) = Means x.value a × (x.next ≡ n)
 IsRead a n (Err s) = ⊥
 
-abbrev pub ReadsBack : List ℕ → Result Taken Stop → Type 0
+abbrev pub ReadsBack : List ℕ → Result (Parsed Request) Stop → Type 0
 ReadsBack bs r = (a : Asked) (rest : List ℕ) → Writable a → bs ≡ write a ++ rest → IsRead a (length (write a)) r
 
 -- how far the first request reaches

@@ -1,10 +1,9 @@
 // Requests read from lent bytes as parts of them, with the place where there is none.
-ghost use Rattle.std.specs.Prelude.{◌≡◌, ◌-◌, ◌≤◌, length, take, drop};
 ghost use Rattle.request.specs.Grammar.{after_request};
-ghost use Rattle.request.specs.Reading.{StepAt, PathAt, RestAt, RequestAt, ReadsBack, Reaches, RulesIn};
+ghost use Rattle.request.specs.Reading.{step_number, kind_number, KindAt, StepAt, PathAt, RestAt, RequestAt, ReadsBack, Reaches, RulesIn};
 
 use cbor::reading::Stop;
-use sequence::reading::{read_number, read_opcode, read_string};
+use sequence::reading::{Parsed, read_number, read_opcode, read_string};
 
 // A step into an item: an array's element by its number from 0, the value at a key, what a tag is on.
 #[derive(Clone, Copy)]
@@ -29,123 +28,138 @@ pub enum Request<'a> {
     Fit(&'a [u8], u64, &'a [u8]),
 }
 
-#[derive(Clone, Copy)]
-pub struct NextStep<'a> {
-    pub step: Step<'a>,
-    pub next: usize,
+// The kinds of steps, by the numbers that they are written with.
+#[derive(Clone, Copy, Debug, PartialEq, Eq)]
+pub(crate) enum StepKind {
+    Index = 0,
+    Key = 1,
+    Content = 2,
 }
 
-// A request, and how many bytes it took.
-#[derive(Clone, Copy)]
-pub struct Taken<'a> {
-    pub request: Request<'a>,
-    pub took: usize,
+// The kinds of requests, by the numbers that they are written with.
+#[derive(Clone, Copy, Debug, PartialEq, Eq)]
+pub(crate) enum Kind {
+    Check = 0,
+    Find = 1,
+    Fit = 2,
 }
 
 // How far the first request in some bytes reaches: it takes so many; all of them begin one, which has at least so many; or from a place on
 // they begin none.
-#[derive(Clone, Copy)]
+#[derive(Clone, Copy, Debug, PartialEq, Eq)]
 pub enum Extent {
     Complete(usize),
     Incomplete(usize),
     Wrong(usize),
 }
 
-fn part<'a>(bytes: &'a [u8], from: usize, next: usize) -> &'a [u8]
-    requires from_le_next { from ≤ next }
-    requires next_in_bounds { next ≤ length bytes.now }
-    ensures { result.now ≡ take (next - from) (drop from bytes.now) }
+fn read_step_kind(bytes: &[u8], at: usize) -> Result<Parsed<StepKind>, Stop>
+    ensures { KindAt step_number bytes.now at result }
 {
-    &bytes[from..next]
+    let number = read_opcode(bytes, at, 2)?;
+    let value = match number.argument {
+        0 => StepKind::Index,
+        1 => StepKind::Key,
+        _ => StepKind::Content,
+    };
+    Ok(Parsed {
+        value,
+        next: number.next,
+    })
+}
+
+fn read_kind(bytes: &[u8], at: usize) -> Result<Parsed<Kind>, Stop>
+    ensures { KindAt kind_number bytes.now at result }
+{
+    let number = read_opcode(bytes, at, 2)?;
+    let value = match number.argument {
+        0 => Kind::Check,
+        1 => Kind::Find,
+        _ => Kind::Fit,
+    };
+    Ok(Parsed {
+        value,
+        next: number.next,
+    })
 }
 
 // The step that stands at a place.
-pub fn read_step<'a>(bytes: &'a [u8], at: usize) -> Result<NextStep<'a>, Stop>
+pub fn read_step(bytes: &[u8], at: usize) -> Result<Parsed<Step<'_>>, Stop>
     ensures { StepAt bytes.now at result }
 {
-    let kind = read_opcode(bytes, at, 2)?;
-    if kind.argument == 0 {
-        let index = read_number(bytes, kind.next)?;
-        return Ok(NextStep {
-            step: Step::Index(index.argument),
-            next: index.next,
-        });
+    let kind = read_step_kind(bytes, at)?;
+    match kind.value {
+        StepKind::Index => {
+            let index = read_number(bytes, kind.next)?;
+            Ok(Parsed {
+                value: Step::Index(index.argument),
+                next: index.next,
+            })
+        }
+        StepKind::Key => Ok(read_string(bytes, kind.next)?.map(Step::Key)),
+        StepKind::Content => Ok(Parsed {
+            value: Step::Content,
+            next: kind.next,
+        }),
     }
-    if kind.argument == 1 {
-        let key = read_string(bytes, kind.next)?;
-        return Ok(NextStep {
-            step: Step::Key(key.value),
-            next: key.next,
-        });
-    }
-    Ok(NextStep {
-        step: Step::Content,
-        next: kind.next,
-    })
 }
 
-// Where so many steps end.
-fn path_end(bytes: &[u8], at: usize, count: u64) -> Result<usize, Stop>
-    requires { at ≤ length bytes.now }
-    ensures { PathAt bytes.now at count result }
-{
-    let mut next = at;
-    let mut left = count;
-    while left > 0 {
-        next = read_step(bytes, next)?.next;
-        left -= 1;
-    }
-    Ok(next)
-}
-
-fn read_check<'a>(bytes: &'a [u8], at: usize) -> Result<Taken<'a>, Stop>
-    ensures { RestAt 0 (after_request 0) bytes.now at result }
-{
-    let item = read_string(bytes, at)?;
-    Ok(Taken {
-        request: Request::Check(item.value),
-        took: item.next,
-    })
-}
-
-fn read_find<'a>(bytes: &'a [u8], at: usize) -> Result<Taken<'a>, Stop>
-    ensures { RestAt 1 (after_request 1) bytes.now at result }
+// A path: how many steps, and the steps.
+fn read_path(bytes: &[u8], at: usize) -> Result<Parsed<Path<'_>>, Stop>
+    ensures { PathAt bytes.now at result }
 {
     let count = read_number(bytes, at)?;
-    let end = path_end(bytes, count.next, count.argument)?;
-    let item = read_string(bytes, end)?;
-    let path = Path {
+    let mut next = count.next;
+    for _ in 0..count.argument {
+        next = read_step(bytes, next)?.next;
+    }
+    let value = Path {
         count: count.argument,
-        steps: part(bytes, count.next, end),
+        steps: &bytes[count.next..next],
     };
-    Ok(Taken {
-        request: Request::Find(path, item.value),
-        took: item.next,
+    Ok(Parsed { value, next })
+}
+
+fn read_check(bytes: &[u8], at: usize) -> Result<Parsed<Request<'_>>, Stop>
+    ensures { RestAt 0 (after_request 0) bytes.now at result }
+{
+    Ok(read_string(bytes, at)?.map(Request::Check))
+}
+
+// By fields and not by `map`: of a closure that captures the path, with `move` or without, no contract is inferred.
+fn read_find(bytes: &[u8], at: usize) -> Result<Parsed<Request<'_>>, Stop>
+    ensures { RestAt 1 (after_request 1) bytes.now at result }
+{
+    let path = read_path(bytes, at)?;
+    let item = read_string(bytes, path.next)?;
+    Ok(Parsed {
+        value: Request::Find(path.value, item.value),
+        next: item.next,
     })
 }
 
-fn read_fit<'a>(bytes: &'a [u8], at: usize) -> Result<Taken<'a>, Stop>
+fn read_fit(bytes: &[u8], at: usize) -> Result<Parsed<Request<'_>>, Stop>
     ensures { RestAt 2 (after_request 2) bytes.now at result }
 {
     let rules = read_string(bytes, at)?;
     let which = read_number(bytes, rules.next)?;
     let item = read_string(bytes, which.next)?;
-    Ok(Taken {
-        request: Request::Fit(rules.value, which.argument, item.value),
-        took: item.next,
+    Ok(Parsed {
+        value: Request::Fit(rules.value, which.argument, item.value),
+        next: item.next,
     })
 }
 
 // The request that stands at the beginning of some bytes, or where they cease to begin one. Rules are not looked into.
-pub fn read_request<'a>(bytes: &'a [u8]) -> Result<Taken<'a>, Stop>
+pub fn read_request(bytes: &[u8]) -> Result<Parsed<Request<'_>>, Stop>
     ensures right { RequestAt bytes.now result }
     ensures back { ReadsBack bytes.now result }
 {
-    let kind = read_opcode(bytes, 0, 2)?;
-    match kind.argument {
-        0 => read_check(bytes, kind.next),
-        1 => read_find(bytes, kind.next),
-        _ => read_fit(bytes, kind.next),
+    let kind = read_kind(bytes, 0)?;
+    match kind.value {
+        Kind::Check => read_check(bytes, kind.next),
+        Kind::Find => read_find(bytes, kind.next),
+        Kind::Fit => read_fit(bytes, kind.next),
     }
 }
 
@@ -153,24 +167,19 @@ pub fn extent_of(bytes: &[u8]) -> Extent
     ensures { Reaches bytes.now result }
 {
     match read_request(bytes) {
-        Ok(taken) => Extent::Complete(taken.took),
+        Ok(request) => Extent::Complete(request.next),
         Err(stop) if stop.place < bytes.len() => Extent::Wrong(stop.place),
         Err(stop) => Extent::Incomplete(stop.least),
     }
 }
 
 // The rules of a request to fit, as soon as all of them are there.
-pub fn rules_in<'a>(bytes: &'a [u8]) -> Option<&'a [u8]>
+pub fn rules_in(bytes: &[u8]) -> Option<&[u8]>
     ensures { RulesIn bytes.now result }
 {
-    let Ok(kind) = read_opcode(bytes, 0, 2) else {
-        return None;
-    };
-    if kind.argument != 2 {
-        return None;
+    let kind = read_kind(bytes, 0).ok()?;
+    match kind.value {
+        Kind::Fit => Some(read_string(bytes, kind.next).ok()?.value),
+        Kind::Check | Kind::Find => None,
     }
-    let Ok(rules) = read_string(bytes, kind.next) else {
-        return None;
-    };
-    Some(rules.value)
 }

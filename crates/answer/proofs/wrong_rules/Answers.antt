@@ -1,27 +1,17 @@
-use Rattle.std.proofs.Common.{Err, subst, arith}
-use Rattle.schema.specs.Verdict.{RulesAt}
-use Rattle.schema.specs.declared.reading.NoRules.TheVariants.{Wrong}
+use Rattle.std.proofs.Common.{arith}
 use Rattle.answer.proofs.Tells.{rules_within}
 use Rattle.answer.proofs.wrong_rules.Goals as goal
 
 pub overflow_add-result : goal.overflow_add-result
-overflow_add-result c =
-    let h = c.head_size.ensures 2 in
-    let l = rules_within c.args.bytes.now c.in-Some.rules.now c.in-Some.ensures.0 in
-    omega arith
+overflow_add-result c = omega (arith, c.head_size.ensures 2, rules_within c.args.bytes.now c.in_ok-rules.rules.now c.in_ok-rules.ensures.0)
 
-pub overflow_add-result-in-Wrong : goal.overflow_add-result-in-Wrong
-overflow_add-result-in-Wrong c =
-    let h = c.head_size.ensures 2 in
-    let l = rules_within c.args.bytes.now c.in-Some.rules.now c.in-Some.ensures.0 in
-    let (table, told) = c.in-Err.ensures in
-    let t : RulesAt c.in-Some.rules.now table (Err (Wrong c.in-Wrong.place)) = subst (λ e. RulesAt c.in-Some.rules.now table (Err e)) c.in-Wrong.is told in
-    let p = t.0.within in
-    omega arith
+pub overflow_add-result-in-Err-Wrong : goal.overflow_add-result-in-Err-Wrong
+overflow_add-result-in-Err-Wrong c =
+    let told = rw c.in-Err-Wrong.field-0-is at c.in-Err-Wrong.ensures in
+    let p = told.1.0.within in
+    omega (arith, c.head_size.ensures 2, rules_within c.args.bytes.now c.in_ok-rules.rules.now c.in_ok-rules.ensures.0)
 
-pub returns-in-Wrong : goal.returns-in-Wrong
-returns-in-Wrong c =
-    let h = c.head_size.ensures 2 in
-    let (table, told) = c.in-Err.ensures in
-    let t : RulesAt c.in-Some.rules.now table (Err (Wrong c.in-Wrong.place)) = subst (λ e. RulesAt c.in-Some.rules.now table (Err e)) c.in-Wrong.is told in
-    (c.in-Some.rules.now, c.in-Some.ensures.0, (c.in-Wrong.place, t, omega arith))
+pub returns-in-Err-Wrong : goal.returns-in-Err-Wrong
+returns-in-Err-Wrong c =
+    let told = rw c.in-Err-Wrong.field-0-is at c.in-Err-Wrong.ensures in
+    (c.in_ok-rules.rules.now, c.in_ok-rules.ensures.0, (c.in-Err-Wrong.place, told.1, omega (arith, c.head_size.ensures 2)))

@@ -3,7 +3,4 @@ use Rattle.schema.proofs.Progresses.{told_at}
 use Rattle.answer.proofs.rules.read_into.Goals as goal
 
 pub returns : goal.returns
-returns c =
-    let f = c.split_at_mut-stack.ensures.front_len in
-    let b = c.split_at_mut-stack.ensures.back_len in
-    (c.read_rules.new.table, told_at _ c.args.rules.now c.read_rules.new.table c.read_rules.result (omega arith, omega arith) c.read_rules.ensures.told)
+returns c = (c.read_rules.new.table, told_at _ c.args.rules.now c.read_rules.new.table c.read_rules.result (omega arith, omega arith) c.read_rules.ensures.told)
