@@ -1,5 +1,5 @@
 -- Reading rules, node by node.
-use Rattle.std.proofs.Common.{◌≡◌, ℕ, zero, suc, ◌+◌, ◌-◌, ◌*◌, ◌<◌, ◌≤◌, List, [], ◌∷◌, ◌++◌, length, get_or, take, drop, Ok, Err, Result, sym, refl, ap, ◌∙◌, subst, inl, inr, append_assoc, arith, take-append-drop}
+use Rattle.std.proofs.Common.{◌≡◌, ℕ, zero, suc, ◌+◌, ◌-◌, ◌*◌, ◌<◌, ◌≤◌, List, [], ◌∷◌, ◌++◌, length, get_or, take, drop, Ok, Err, Result, IsErrAnd, sym, refl, ap, ◌∙◌, subst, inl, inr, append_assoc, arith, take-append-drop}
 use Rattle.std.proofs.lemmas.Bool.{cases_lt}
 use Rattle.std.proofs.lemmas.List.{append-nil, take_all, take_more}
 use Rattle.cbor.specs.declared.reading.Stop.{Stop}
@@ -17,7 +17,6 @@ use Rattle.schema.specs.declared.nodes.Node.{Node}
 use Rattle.schema.specs.declared.nodes.Node.TheVariants.{OfSchema, OfGroup, OfField}
 use Rattle.schema.specs.declared.nodes.Run.{Run}
 use Rattle.schema.specs.declared.nodes.Sort.{Sort as NodeSort}
-use Rattle.schema.specs.declared.reading.Progress.{Progress}
 use Rattle.schema.specs.Rules.{Schema, tokens, write, Writable, AreRules, parts}
 use Rattle.schema.specs.Grammar.{Sort, the_rules, a_rule, many, grammar, parts_in}
 use Rattle.schema.specs.Nodes.{own_tokens, sort_of, inner_of_node, inside, run_of, string_in, rule_part}
@@ -26,7 +25,7 @@ use Rattle.schema.specs.Stacks.{number_sort, pending}
 use Rattle.schema.specs.declared.reading.Rules.{Rules}
 use Rattle.schema.specs.declared.reading.NoRules.{NoRules}
 use Rattle.schema.specs.declared.reading.NoRules.TheVariants.{TooLittleLent, TooLarge, Wrong}
-use Rattle.schema.specs.Verdict.{HasTooMany, WrongAt, Reached, Tabled, RulesAt, RulesTold, IsRead, ReadsBack}
+use Rattle.schema.specs.Verdict.{HasTooMany, WrongAt, Reached, Refused, Tabled, RulesAt, RulesTold, IsRead}
 use Rattle.schema.proofs.Trees.{rules_take, rules_in, are_completes, completes_are}
 use Rattle.schema.specs.Table.{rows, RowWritten}
 use Rattle.schema.proofs.Places.{ceases_first}
@@ -60,7 +59,7 @@ unfolding many
 whole_many zero s ss o w = w
 whole_many (suc k) s ss o w = o
 
-whole_pending : (stack : List ℕ) (k : ℕ) → Whole (pending stack k)
+pub whole_pending : (stack : List ℕ) (k : ℕ) → Whole (pending stack k)
 unfolding pending
 whole_pending stack zero = tt
 whole_pending stack (suc k) = whole_many (get_or stack (2 * k + 1) 0) (number_sort (get_or stack (2 * k) 0)) (pending stack k) (opens (get_or stack (2 * k) 0)) (whole_pending stack k)
@@ -92,58 +91,41 @@ opens_inside (OfField (Required key)) = tt
 opens_inside (OfField (Optional key)) = tt
 opens_inside (OfField Others) = tt
 
-module _ (bs stack table : List ℕ) (s : Progress) (h : Reached bs stack table s) where
-  -- an empty run on top
-  pub one_less : (k : ℕ) → s.depth ≡ k + 1 → pending stack (k + 1) ≡ pending stack k → Reached bs stack table (record { at = s.at; depth = k; parts = s.parts; nodes = s.nodes })
-  one_less k d e = record {
-    few = h.few;
-    deep = (let z = h.deep in omega arith);
-    read = h.read;
-    spelled = h.spelled;
-    takes = subst (λ ss. Takes grammar (the_rules ∷ []) h.read ss) (ap (pending stack) d ∙ e) h.takes;
-    counted = h.counted;
-    listed = h.listed;
-    count = h.count;
-    tabled = h.tabled;
-  }
+module _ (bs table : List ℕ) (q : NodeSort) (ss : List Sort) (at parts nodes : ℕ) (h : Reached bs table (sort_of q ∷ ss) at parts nodes) where
+  -- no node there
+  pub no_node : (stop : Stop) → NodeAt (sort_of q) bs at (Err stop) → WrongAt bs stop.place × (HasTooMany bs → ⊥)
+  no_node stop f = (wrong_from bs stop (stop_after grammar (the_rules ∷ []) (sort_of q ∷ ss) h.read bs 0 at stop h.takes h.spelled (f ss).0), not_too_many bs h.read (sort_of q ∷ ss) at h.takes h.spelled (let z = h.few in let y = h.counted in omega arith) (f ss).1)
 
-  module _ (taken : List ℕ) (q : NodeSort) (top : pending stack s.depth ≡ sort_of q ∷ pending taken s.depth) where
-    one_pending : Takes grammar (the_rules ∷ []) h.read (sort_of q ∷ pending taken s.depth)
-    one_pending = subst (λ ss. Takes grammar (the_rules ∷ []) h.read ss) top h.takes
+  -- one there
+  module _ (x : NextNode) (node : NodeAt (sort_of q) bs at (Ok x)) where
+    spelled : SpelledAt (h.read ++ own_tokens x.node) bs 0 x.next
+    spelled = spelled_append h.read (own_tokens x.node) bs 0 at x.next h.spelled node.2
 
-    -- no node there
-    pub no_node : (stop : Stop) → NodeAt (sort_of q) bs s.at (Err stop) → WrongAt bs stop.place × (HasTooMany bs → ⊥)
-    no_node stop f = (wrong_from bs stop (stop_after grammar (the_rules ∷ []) (sort_of q ∷ pending taken s.depth) h.read bs 0 s.at stop one_pending h.spelled (f (pending taken s.depth)).0), not_too_many bs h.read (sort_of q ∷ pending taken s.depth) s.at one_pending h.spelled (let z = h.few in let y = h.counted in omega arith) (f (pending taken s.depth)).1)
+    taking : Takes grammar (the_rules ∷ []) (h.read ++ own_tokens x.node) (inside x.node ++ ss)
+    taking = takes_append grammar (the_rules ∷ []) (sort_of q ∷ ss) (inside x.node ++ ss) h.read (own_tokens x.node) h.takes (node.3 ss)
 
-    -- one there
-    module _ (x : NextNode) (node : NodeAt (sort_of q) bs s.at (Ok x)) where
-      more : List Token
-      more = h.read ++ own_tokens x.node
+    counting : parts_in (the_rules ∷ []) (h.read ++ own_tokens x.node) ≡ parts + (rule_part q + (1 + string_in x.node))
+    counting = parts_append (the_rules ∷ []) (sort_of q ∷ ss) h.read (own_tokens x.node) h.takes ∙ (λ i. sym h.counted i + node_weighs q x.node ss node.0 i)
 
-      spelled : SpelledAt (h.read ++ own_tokens x.node) bs 0 x.next
-      spelled = spelled_append h.read (own_tokens x.node) bs 0 s.at x.next h.spelled node.2
+    pub too_many : Whole ss → 8192 < parts + (rule_part q + (1 + string_in x.node)) → HasTooMany bs
+    too_many w l = (h.read ++ own_tokens x.node, inside x.node ++ ss, x.next, spelled, taking, whole_many (inner_of_node x.node).1 (inner_of_node x.node).0 ss (opens_inside x.node) w, subst (λ n. 8192 < n) (sym counting) l)
 
-      taking : Takes grammar (the_rules ∷ []) (h.read ++ own_tokens x.node) (inside x.node ++ pending taken s.depth)
-      taking = takes_append grammar (the_rules ∷ []) (sort_of q ∷ pending taken s.depth) (inside x.node ++ pending taken s.depth) h.read (own_tokens x.node) one_pending (node.3 (pending taken s.depth))
+    pub one_node : (rowed : List ℕ) (r : Run) (n : ℕ) → RowWritten table nodes x.node x.next rowed → run_of r ≡ inner_of_node x.node → n ≡ parts + (rule_part q + (1 + string_in x.node)) → n ≤ 8192 → Reached bs rowed (many r.count (sort_of r.sort) ++ ss) x.next n (nodes + 1)
+    one_node rowed r n row e m l = record {
+      few = l;
+      read = h.read ++ own_tokens x.node;
+      spelled = spelled;
+      takes = subst (λ rest. Takes grammar (the_rules ∷ []) (h.read ++ own_tokens x.node) rest) (sym (ap (λ y. many y.1 y.0 ++ ss) e)) taking;
+      counted = m ∙ sym counting;
+      listed = (let z = h.listed in omega arith);
+      count = h.count;
+      tabled = ap (λ ts. ts ++ own_tokens x.node) h.tabled ∙ ap (λ ts. num h.count ∷ ts) (sym (row bs at node.2));
+    }
 
-      counting : parts_in (the_rules ∷ []) (h.read ++ own_tokens x.node) ≡ s.parts + (rule_part q + (1 + string_in x.node))
-      counting = parts_append (the_rules ∷ []) (sort_of q ∷ pending taken s.depth) h.read (own_tokens x.node) one_pending ∙ (λ i. sym h.counted i + node_weighs q x.node (pending taken s.depth) node.0 i)
-
-      pub too_many : 8192 < s.parts + (rule_part q + (1 + string_in x.node)) → HasTooMany bs
-      too_many l = (h.read ++ own_tokens x.node, inside x.node ++ pending taken s.depth, x.next, spelled, taking, whole_many (inner_of_node x.node).1 (inner_of_node x.node).0 (pending taken s.depth) (opens_inside x.node) (whole_pending taken s.depth), subst (λ n. 8192 < n) (sym counting) l)
-
-      pub one_node : (new rowed : List ℕ) (r : Run) (n : ℕ) → RowWritten table s.nodes x.node x.next rowed → run_of r ≡ inner_of_node x.node → pending new (s.depth + 1) ≡ many r.count (sort_of r.sort) ++ pending taken s.depth → n ≡ s.parts + (rule_part q + (1 + string_in x.node)) → n ≤ 8192 → Reached bs new rowed (record { at = x.next; depth = s.depth + 1; parts = n; nodes = s.nodes + 1 })
-      one_node new rowed r n row e p m l = record {
-        few = l;
-        deep = (let z = h.deep in omega arith);
-        read = h.read ++ own_tokens x.node;
-        spelled = spelled;
-        takes = subst (λ ss. Takes grammar (the_rules ∷ []) (h.read ++ own_tokens x.node) ss) (sym (p ∙ ap (λ y. many y.1 y.0 ++ pending taken s.depth) e)) taking;
-        counted = m ∙ sym counting;
-        listed = (let z = h.listed in omega arith);
-        count = h.count;
-        tabled = ap (λ ts. ts ++ own_tokens x.node) h.tabled ∙ ap (λ ts. num h.count ∷ ts) (sym (row bs s.at node.2));
-      }
+-- a refusal that is handed on
+pub refused : {A : Type 0} (Q : Result A NoRules → Type 0) (bs : List ℕ) (e : NoRules) (r : Result A NoRules) → IsErrAnd r (λ f. f ≡ e) → Refused bs e → ((f : NoRules) → Refused bs f → Q (Err f)) → Q r
+refused Q bs e (Ok _) h w q = absurd h
+refused Q bs e (Err f) h w q = q f (subst (Refused bs) (sym h) w)
 
 -- THE BEGINNING AND THE END
 
@@ -153,11 +135,10 @@ no_number bs stop h =
     let (p, stuck) = ceases_first the_rules [] bs 0 stop h in
     (wrong_from bs stop p, not_too_many bs [] (the_rules ∷ []) 0 refl (omega arith, omega arith, refl) (omega arith) stuck)
 
-pub begun : (bs stack table : List ℕ) (n end : ℕ) → TokenAt number (num n) bs 0 end → pending stack 1 ≡ many n a_rule ++ [] → Reached bs stack table (record { at = end; depth = 1; parts = 0; nodes = 0 })
+pub begun : (bs table : List ℕ) (n end : ℕ) (ss : List Sort) → TokenAt number (num n) bs 0 end → ss ≡ many n a_rule ++ [] → Reached bs table ss end 0 0
 unfolding Takes parts_in rows
-begun bs stack table n end t e = record {
+begun bs table n end ss t e = record {
   few = omega arith;
-  deep = omega arith;
   read = num n ∷ [];
   spelled = spelled_one number (num n) bs 0 end t;
   takes = (t.0.2.1, sym e);
@@ -167,45 +148,45 @@ begun bs stack table n end t e = record {
   tabled = refl;
 }
 
-module _ (bs stack table : List ℕ) (s : Progress) (h : Reached bs stack table s) (z : s.depth ≡ 0) where
-  over : Takes grammar (the_rules ∷ []) h.read []
-  unfolding pending
-  over = subst (λ k. Takes grammar (the_rules ∷ []) h.read (pending stack k)) z h.takes
-
-  front : take s.at bs ≡ spell h.read
-  front = ap (λ k. take k bs) (let y : s.at ≡ s.at - 0 = omega arith in y) ∙ h.spelled.2
+module _ (bs table : List ℕ) (at parts_read nodes : ℕ) (h : Reached bs table [] at parts_read nodes) where
+  front : take at bs ≡ spell h.read
+  front = ap (λ k. take k bs) (let y : at ≡ at - 0 = omega arith in y) ∙ h.spelled.2
 
   -- bytes after the rules
-  nothing_more : Stuck [] bs s.at
+  nothing_more : Stuck [] bs at
   unfolding Takes
   nothing_more [] rest end f p w = refl
   nothing_more (t ∷ vs) rest end f p w = absurd f
 
-  wrong_after : s.at < length bs → WrongAt bs s.at
+  wrong_after : at < length bs → WrongAt bs at
   wrong_after l = record {
     within = omega arith;
-    begins = ([], completes_are (take s.at bs ++ []) (h.read, (append-nil (take s.at bs) ∙ front, over)));
+    begins = ([], completes_are (take at bs ++ []) (h.read, (append-nil (take at bs) ∙ front, h.takes)));
     ends = λ _ (r, a).
-        let (us, (e, f)) = are_completes (take (suc s.at) bs ++ r) a in
-        let b = get_or bs s.at 0 in
-        let g : take (suc s.at) bs ≡ take s.at bs ++ b ∷ [] = ap (λ k. take k bs) (let y : suc s.at ≡ s.at + 1 = omega arith in y) ∙ take_more bs s.at 0 l in
-        let j : take s.at bs ++ b ∷ r ≡ spell us = sym (append_assoc (take s.at bs) (b ∷ []) r) ∙ ap (λ w. w ++ r) (sym g) ∙ e in
-        let k = completes_free grammar (the_rules ∷ []) h.read us (take s.at bs) (b ∷ r) (front, over) (j, f) in
+        let (us, (e, f)) = are_completes (take (suc at) bs ++ r) a in
+        let b = get_or bs at 0 in
+        let g : take (suc at) bs ≡ take at bs ++ b ∷ [] = ap (λ k. take k bs) (let y : suc at ≡ at + 1 = omega arith in y) ∙ take_more bs at 0 l in
+        let j : take at bs ++ b ∷ r ≡ spell us = sym (append_assoc (take at bs) (b ∷ []) r) ∙ ap (λ w. w ++ r) (sym g) ∙ e in
+        let k = completes_free grammar (the_rules ∷ []) h.read us (take at bs) (b ∷ r) (front, h.takes) (j, f) in
         let y : suc (length r) ≡ 0 = ap length k.1 in
         omega arith;
     short = λ e. absurd (omega arith);
   }
 
-  pub trailing : s.at < length bs → WrongAt bs s.at × (HasTooMany bs → ⊥)
-  trailing l = (wrong_after l, not_too_many bs h.read [] s.at over h.spelled (let y = h.few in let x = h.counted in omega arith) nothing_more)
+  pub trailing : at < length bs → WrongAt bs at × (HasTooMany bs → ⊥)
+  trailing l = (wrong_after l, not_too_many bs h.read [] at h.takes h.spelled (let y = h.few in let x = h.counted in omega arith) nothing_more)
 
   -- nothing after them
-  pub whole : length bs ≤ s.at → ((xs : List Schema) × AreRules xs bs × (s.parts ≡ parts xs) × Tabled xs bs table s.nodes) × (s.nodes ≤ s.parts) × (s.parts ≤ 8192) × (HasTooMany bs → ⊥)
-  whole l =
-      let (xs, w, e) = rules_in h.read over in
-      let f : tokens xs ≡ num h.count ∷ rows bs table s.nodes = sym e ∙ h.tabled in
+  all_read : length bs ≤ at → ((xs : List Schema) × AreRules xs bs × (parts_read ≡ parts xs) × Tabled xs bs table nodes) × (nodes ≤ parts_read) × (parts_read ≤ 8192) × (HasTooMany bs → ⊥)
+  all_read l =
+      let (xs, w, e) = rules_in h.read h.takes in
+      let f : tokens xs ≡ num h.count ∷ rows bs table nodes = sym e ∙ h.tabled in
       let k : h.count ≡ length xs = cc in
-      ((xs, (sym (take_all s.at bs l) ∙ front ∙ ap spell e, w), h.counted ∙ ap (parts_in (the_rules ∷ [])) e ∙ rules_count xs, f ∙ ap (λ n. num n ∷ rows bs table s.nodes) k), h.listed, h.few, not_too_many bs h.read [] s.at over h.spelled (let y = h.few in let x = h.counted in omega arith) nothing_more)
+      ((xs, (sym (take_all at bs l) ∙ front ∙ ap spell e, w), h.counted ∙ ap (parts_in (the_rules ∷ [])) e ∙ rules_count xs, f ∙ ap (λ n. num n ∷ rows bs table nodes) k), h.listed, h.few, not_too_many bs h.read [] at h.takes h.spelled (let y = h.few in let x = h.counted in omega arith) nothing_more)
+
+-- all of them, as the table ends
+pub whole : (bs given table final : List ℕ) (at parts_read nodes : ℕ) → Reached bs table [] at parts_read nodes → bs ≡ given → final ≡ table → length bs ≤ at → ((xs : List Schema) × AreRules xs given × (parts_read ≡ parts xs) × Tabled xs given final nodes) × (nodes ≤ parts_read) × (parts_read ≤ 8192) × (HasTooMany given → ⊥)
+whole bs given table final at parts_read nodes h e f l = subst (λ w. ((xs : List Schema) × AreRules xs w × (parts_read ≡ parts xs) × Tabled xs w final nodes) × (nodes ≤ parts_read) × (parts_read ≤ 8192) × (HasTooMany w → ⊥)) e (subst (λ t. ((xs : List Schema) × AreRules xs bs × (parts_read ≡ parts xs) × Tabled xs bs t nodes) × (nodes ≤ parts_read) × (parts_read ≤ 8192) × (HasTooMany bs → ⊥)) (sym f) (all_read bs table at parts_read nodes h l))
 
 -- READ BACK
 
@@ -239,11 +220,11 @@ told_from Lent bs table (Err TooLittleLent) l h = absurd h
 told_from Lent bs table (Err TooLarge) l h = (l, h)
 told_from Lent bs table (Err (Wrong p)) l h = (l, h)
 
-pub reads_back : (Lent : Type 0) (bs table : List ℕ) (r : Result Rules NoRules) → RulesTold Lent bs table r → ReadsBack Lent bs table r
-reads_back Lent bs table (Ok r) (a, ((ys, f, m, t), n, b, c)) xs w e l k = same_rules bs xs w e ys table r f m t
-reads_back Lent bs table (Err TooLittleLent) h xs w e l k = h k
-reads_back Lent bs table (Err TooLarge) (a, h) xs w e l k = few_parts bs xs w e l h
-reads_back Lent bs table (Err (Wrong p)) (a, (h, b)) xs w e l k = not_wrong bs xs w e p h
+pub read_back : (bs table : List ℕ) (r : Result Rules NoRules) → RulesAt bs table r → (xs : List Schema) → Writable xs → bs ≡ write xs → parts xs ≤ 8192 → IsRead xs bs table r
+read_back bs table (Ok r) ((ys, f, m, t), n, b, c) xs w e l = same_rules bs xs w e ys table r f m t
+read_back bs table (Err TooLittleLent) h xs w e l = absurd h
+read_back bs table (Err TooLarge) h xs w e l = few_parts bs xs w e l h
+read_back bs table (Err (Wrong p)) (h, b) xs w e l = not_wrong bs xs w e p h
 
 -- with enough lent, the rules are told of
 pub told_at : (Lent : Type 0) (bs table : List ℕ) (r : Result Rules NoRules) → Lent → RulesTold Lent bs table r → RulesAt bs table r

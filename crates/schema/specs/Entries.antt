@@ -1,5 +1,5 @@
 -- Nodes as they are written: an opcode, and what stands after it.
-use Rattle.std.specs.Prelude.{◌≡◌, ℕ, List, [], ◌∷◌}
+use Rattle.std.specs.Prelude.{◌≡◌, ℕ, List, [], ◌∷◌, Some, None, Option}
 use Rattle.sequence.specs.Token.{Token, num, str}
 use Rattle.schema.specs.declared.nodes.Node.{Node}
 use Rattle.schema.specs.declared.entries.Form.{Form}
@@ -15,3 +15,8 @@ form_tokens opcode (String s) = num opcode ∷ str s.now ∷ []
 
 abbrev pub EntryOf : Node → Entry → Type 0
 EntryOf x e = form_tokens e.opcode e.form ≡ own_tokens x
+
+-- the node of a kind that an entry is; or none, where no node of that kind is written like that
+abbrev pub NodeOf : {A : Type 0} → (A → Node) → Entry → Option A → Type 0
+NodeOf node e (Some x) = EntryOf (node x) e
+NodeOf {A} node e None = (x : A) → EntryOf (node x) e → ⊥

@@ -3,7 +3,6 @@ use Rattle.std.specs.Prelude.{◌≡◌, ℕ, zero, suc, ◌+◌, ◌*◌, ◌<�
 use Rattle.sequence.specs.Token.{Token, num, str}
 use Rattle.sequence.specs.Reading.{SpelledAt}
 use Rattle.schema.specs.declared.nodes.Node.{Node}
-use Rattle.schema.specs.declared.table.Row.{Row}
 use Rattle.schema.specs.declared.entries.Entry.{Entry}
 use Rattle.schema.specs.Entries.{form_tokens}
 use Rattle.schema.specs.Nodes.{own_tokens}
@@ -23,8 +22,8 @@ rows bs table zero = []
 rows bs table (suc n) = rows bs table n ++ row_at bs table n
 
 -- the row of an entry that ends at a place of the bytes
-abbrev pub RowOf : Entry → ℕ → Row → Type 0
-RowOf e next r = (bs : List ℕ) (at : ℕ) → SpelledAt (form_tokens e.opcode e.form) bs at next → row_says bs r.opcode r.form r.first r.second ≡ form_tokens e.opcode e.form
+abbrev pub RowOf : Entry → ℕ → List ℕ → Type 0
+RowOf e next row = (bs : List ℕ) (at : ℕ) → SpelledAt (form_tokens e.opcode e.form) bs at next → row_at bs row 0 ≡ form_tokens e.opcode e.form
 
 -- one row more, and those before it as they were
 abbrev pub RowWritten : List ℕ → ℕ → Node → ℕ → List ℕ → Type 0

@@ -1,18 +1,25 @@
 -- What reading rules tells.
-use Rattle.std.specs.Prelude.{◌≡◌, ℕ, suc, ◌+◌, ◌*◌, ◌<◌, ◌≤◌, ◌⊎◌, List, [], ◌∷◌, length, take, Ok, Err, Result}
+use Rattle.std.specs.Prelude.{◌≡◌, ℕ, suc, ◌<◌, ◌≤◌, ◌⊎◌, List, [], ◌∷◌, ◌++◌, length, take, Ok, Err, Result, codes, decimal}
 use Rattle.cbor.specs.Prefix.{Begins, Any}
 use Rattle.sequence.specs.Token.{Token, num}
 use Rattle.sequence.specs.Grammar.{Takes}
 use Rattle.sequence.specs.Reading.{SpelledAt}
-use Rattle.schema.specs.declared.reading.Progress.{Progress}
+use Rattle.schema.specs.declared.nodes.Run.{Run}
+use Rattle.schema.specs.declared.reader.Reader.{Reader}
 use Rattle.schema.specs.declared.reading.NoRules.{NoRules}
 use Rattle.schema.specs.declared.reading.NoRules.TheVariants.{TooLittleLent, TooLarge, Wrong}
 use Rattle.schema.specs.declared.reading.Rules.{Rules}
 use Rattle.schema.specs.Rules.{Schema, tokens, AreRules, Writable, write, parts}
-use Rattle.schema.specs.Grammar.{Sort, the_rules, grammar, parts_in}
+use Rattle.schema.specs.Grammar.{Sort, the_rules, many, grammar, parts_in}
+use Rattle.schema.specs.Nodes.{sort_of}
 use Rattle.schema.specs.Reading.{Whole}
-use Rattle.schema.specs.Stacks.{pending}
 use Rattle.schema.specs.Table.{rows}
+
+-- what is printed
+abbrev pub reason : NoRules → List ℕ
+reason TooLittleLent = codes "too little is lent"
+reason TooLarge = codes "too large"
+reason (Wrong place) = codes "wrong at " ++ decimal place
 
 -- the table's rows say what rules are written in
 abbrev pub Tabled : List Schema → List ℕ → List ℕ → ℕ → Type 0
@@ -29,27 +36,29 @@ pub record WrongAt (bs : List ℕ) (place : ℕ) : Type 0 where
   pub ends : place < length bs → Begins (Any AreRules) (take (suc place) bs) → ⊥
   pub short : place ≡ length bs → Any AreRules bs → ⊥
 
--- how far reading has come: the tokens so far lead to what is pending on the stack, complete so many parts, and are what the table says
-pub record Reached (bs stack table : List ℕ) (s : Progress) : Type 0 where
-  pub few : s.parts ≤ 8192
-  pub deep : s.depth ≤ s.parts + 1
+-- how far reading has come: the tokens so far lead to what is pending, complete so many parts, and are what the table says
+pub record Reached (bs table : List ℕ) (ss : List Sort) (at parts nodes : ℕ) : Type 0 where
+  pub few : parts ≤ 8192
   pub read : List Token
-  pub spelled : SpelledAt read bs 0 s.at
-  pub takes : Takes grammar (the_rules ∷ []) read (pending stack s.depth)
-  pub counted : s.parts ≡ parts_in (the_rules ∷ []) read
-  pub listed : s.nodes ≤ s.parts
+  pub spelled : SpelledAt read bs 0 at
+  pub takes : Takes grammar (the_rules ∷ []) read ss
+  pub counted : parts ≡ parts_in (the_rules ∷ []) read
+  pub listed : nodes ≤ parts
   pub count : ℕ
-  pub tabled : read ≡ num count ∷ rows bs table s.nodes
+  pub tabled : read ≡ num count ∷ rows bs table nodes
 
 abbrev pub Refused : List ℕ → NoRules → Type 0
 Refused bs TooLittleLent = ⊥
 Refused bs TooLarge = HasTooMany bs
 Refused bs (Wrong place) = WrongAt bs place × (HasTooMany bs → ⊥)
 
--- one node more, or an empty run less
-abbrev pub Advances : List ℕ → Progress → List ℕ → List ℕ → Result Progress NoRules → Type 0
-Advances bs s stack table (Ok t) = Reached bs stack table t × (2 * s.at + t.depth < 2 * t.at + s.depth)
-Advances bs s stack table (Err e) = Refused bs e
+abbrev pub Stands : Reader → List Sort → Type 0
+Stands r ss = Reached r.bytes.now r.table.now ss r.at r.parts r.nodes
+
+-- one node more, and what is in it is pending before the rest
+abbrev pub Advances : Reader → List Sort → Reader → Result Run NoRules → Type 0
+Advances old ss new (Ok inner) = Stands new (many inner.count (sort_of inner.sort) ++ ss) × (new.bytes.now ≡ old.bytes.now) × (old.at < new.at) × (old.parts < new.parts)
+Advances old ss new (Err e) = Refused old.bytes.now e
 
 -- all of them: the table says just the tokens that the rules are
 abbrev pub RulesAt : List ℕ → List ℕ → Result Rules NoRules → Type 0

@@ -3,7 +3,11 @@
 #![tactic(auto)]
 
 mod entries;
+pub mod kinds;
 pub mod nodes;
+mod reader;
 pub mod reading;
+mod sorts;
+mod stack;
 pub mod table;
 pub mod writing;

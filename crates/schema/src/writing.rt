@@ -5,28 +5,22 @@ ghost use Rattle.sequence.specs.Token.{spell};
 ghost use Rattle.schema.specs.Nodes.{own_tokens};
 ghost use Rattle.schema.specs.Entries.{form_tokens};
 
-use crate::entries::{Entry, Form, entry_of};
+use crate::entries::{Entry, Form};
 use crate::nodes::Node;
-use sequence::writing::{Token, write_tokens};
-
-// Borrows nothing.
-fn number(value: u64) -> Token<'static>
-    ensures { result ≡ Token.Number value }
-{
-    Token::Number(value)
-}
+use sequence::writing::Token::{Bytes, Number};
+use sequence::writing::write_tokens;
 
 fn write_entry(out: &mut [u8], at: usize, entry: Entry<'_>) -> Option<usize>
     ensures { Writes out.old at (spell (form_tokens entry.entry.opcode entry.entry.form)) out.new result }
 {
-    let opcode = number(entry.opcode);
-    match entry.form {
-        Form::Bare => write_tokens(out, at, &[opcode]),
-        Form::Number(argument) => write_tokens(out, at, &[opcode, number(argument)]),
+    let Entry { opcode, form } = entry;
+    match form {
+        Form::Bare => write_tokens(out, at, &[Number(opcode)]),
+        Form::Number(argument) => write_tokens(out, at, &[Number(opcode), Number(argument)]),
         Form::Numbers(first, second) => {
-            write_tokens(out, at, &[opcode, number(first), number(second)])
+            write_tokens(out, at, &[Number(opcode), Number(first), Number(second)])
         }
-        Form::String(content) => write_tokens(out, at, &[opcode, Token::Bytes(content)]),
+        Form::String(content) => write_tokens(out, at, &[Number(opcode), Bytes(content)]),
     }
 }
 
@@ -34,5 +28,5 @@ fn write_entry(out: &mut [u8], at: usize, entry: Entry<'_>) -> Option<usize>
 pub fn write_node(out: &mut [u8], at: usize, node: Node<'_>) -> Option<usize>
     ensures { Writes out.old at (spell (own_tokens node.entry)) out.new result }
 {
-    write_entry(out, at, entry_of(node))
+    write_entry(out, at, Entry::from(node))
 }

@@ -1,17 +1,25 @@
-use Rattle.std.proofs.Common.{arith}
-use Rattle.schema.specs.Stacks.{pending}
-use Rattle.schema.proofs.Progresses.{no_number, begun, trailing, whole}
+use Rattle.std.proofs.Common.{[], length, subst, ap, arith, rules}
+use Rattle.schema.specs.Verdict.{Refused, RulesAt, Stands}
+use Rattle.schema.specs.declared.reading.NoRules.TheVariants.{Wrong}
+use Rattle.schema.proofs.Progresses.{refused, no_number, trailing, whole}
 use Rattle.schema.proofs.reading.read_all.Goals as goal
 
-pub returns-in-Err : goal.returns-in-Err
-returns-in-Err c = no_number c.args.bytes.now c.in-Err.stop c.in-Err.ensures
+pub returns-in_err-rules : goal.returns-in_err-rules
+returns-in_err-rules c =
+    let bytes = c.args.bytes.now in
+    let stop = c.in_err-rules.field-0.0 in
+    refused (RulesAt bytes c.args.table.now) bytes (Wrong stop.place) c.from_residual.result c.from_residual.ensures.1 (no_number bytes stop c.in_err-rules.ensures) (λ _ h. h)
 
-pub loop-progress-init : goal.loop-progress-init
-unfolding pending
-loop-progress-init c = begun c.args.bytes.now c.push.new.stack c.args.table.now c.in-Ok.rules.argument c.in-Ok.rules.next c.in-Ok.ensures c.push.ensures
-
-pub returns-then-progress-bytes : goal.returns-then-progress-bytes
-returns-then-progress-bytes c = trailing c.args.bytes.now c.loop-progress.stack c.loop-progress.table c.loop-progress.progress c.loop-progress.invariant (omega arith) (omega arith)
+pub returns-then-reader-bytes : goal.returns-then-reader-bytes
+returns-then-reader-bytes c =
+    let r = c.loop-sort.reader in
+    let i = c.loop-sort.invariant in
+    let h : Stands r [] = subst (Stands r) c.in_default.ensures.popped i.stands in
+    subst (λ bs. Refused bs (Wrong r.at)) i.bytes (trailing r.bytes.now r.table.now r.at r.parts r.nodes h (omega (arith, c.if-reader-bytes.true, ap length i.bytes)))
 
 pub returns : goal.returns
-returns c = whole c.args.bytes.now c.loop-progress.stack c.loop-progress.table c.loop-progress.progress c.loop-progress.invariant (omega arith) (omega arith)
+returns c =
+    let r = c.loop-sort.reader in
+    let i = c.loop-sort.invariant in
+    let h : Stands r [] = subst (Stands r) c.in_default.ensures.popped i.stands in
+    whole r.bytes.now c.args.bytes.now r.table.now _ r.at r.parts r.nodes h i.bytes (search rules) (omega (arith, c.if-reader-bytes.false, ap length i.bytes))

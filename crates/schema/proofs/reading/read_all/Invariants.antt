@@ -1,9 +1,16 @@
-use Rattle.std.proofs.Common.{◌+◌, ◌-◌, ◌*◌, length}
-use Rattle.schema.specs.Verdict.{Reached}
+use Rattle.std.proofs.Common.{◌≡◌, ◌+◌, ◌-◌, ◌≤◌, length}
+use Rattle.schema.specs.Stacks.{pending}
+use Rattle.schema.specs.Verdict.{Stands}
 use Rattle.schema.proofs.reading.read_all.Given as goal
 
-abbrev pub invariant-loop-progress : goal.invariant-loop-progress
-invariant-loop-progress l = Reached l.bytes l.stack l.table l.progress
+abbrev pub invariant-loop-sort : goal.invariant-loop-sort
+invariant-loop-sort l = record {
+  stands : Stands l.reader (pending l.stack.numbers.now l.stack.depth);
+  deep : l.stack.depth ≤ l.reader.parts + 1;
+  room : 32768 ≤ length l.reader.table.now;
+  bytes : l.reader.bytes.now ≡ l.bytes;
+  table : l.reader.table.ghost_name ≡ l.initial.reader.table.ghost_name;
+}
 
-abbrev pub decreases-loop-progress : goal.decreases-loop-progress
-decreases-loop-progress l = 2 * length l.bytes + l.progress.depth - 2 * l.progress.at
+abbrev pub decreases-loop-sort : goal.decreases-loop-sort
+decreases-loop-sort l = length l.bytes - l.reader.at

@@ -1,0 +1,75 @@
+// The stack of what is pending in lent numbers.
+ghost use Rattle.std.specs.Prelude.{◌≡◌, ◌+◌, ◌*◌, ◌<◌, ◌≤◌, ◌++◌, length};
+ghost use Rattle.schema.specs.declared.reading.TheConstants.{STACK};
+
+use crate::nodes::{Run, Sort};
+
+impl From<u64> for Sort {
+    ghost use Rattle.schema.specs.Nodes.{sort_of};
+    ghost use Rattle.schema.specs.Stacks.{number_sort};
+
+    ghost from_gives = { λ n s. sort_of s ≡ number_sort n };
+
+    fn from(number: u64) -> Sort {
+        match number {
+            0 => Sort::ARule,
+            1 => Sort::ASchema,
+            2 => Sort::AGroup,
+            _ => Sort::AField,
+        }
+    }
+}
+
+impl From<Sort> for u64 {
+    ghost use Rattle.schema.specs.Nodes.{sort_of};
+    ghost use Rattle.schema.specs.Stacks.{number_sort};
+
+    ghost from_gives = { λ s n. number_sort n ≡ sort_of s };
+
+    fn from(sort: Sort) -> u64 {
+        sort as u64
+    }
+}
+
+// Two numbers of lent memory for each run, a sort and how many of it, the top one last.
+#[derive(Drop)]
+pub(crate) struct Stack<'a> {
+    pub(crate) numbers: &'a mut [u64],
+    pub(crate) depth: usize,
+    ghost room: { STACK ≤ length numbers.now },
+    ghost deep: { 2 * depth ≤ STACK },
+}
+
+impl Stack<'_> {
+    ghost use Rattle.schema.specs.Grammar.{many};
+    ghost use Rattle.schema.specs.Nodes.{sort_of};
+    ghost use Rattle.schema.specs.Stacks.{pending, Pops};
+
+    #[tactic(auto, using(crate::proofs::Stacks::pushed))]
+    pub(crate) fn push(&mut self, run: Run)
+        requires { 2 * self.old.depth < STACK }
+        ensures pushed { pending self.new.numbers.now self.new.depth ≡ many run.count (sort_of run.sort) ++ pending self.old.numbers.now self.old.depth }
+        ensures depth { self.new.depth ≡ self.old.depth + 1 }
+    {
+        self.numbers[2 * self.depth] = u64::from(run.sort);
+        self.numbers[2 * self.depth + 1] = run.count;
+        self.depth += 1;
+    }
+
+    // Takes what is next, and the empty runs above it.
+    #[tactic(auto, using(crate::proofs::Stacks::taken_top, crate::proofs::Stacks::emptied_top), unfolding(crate::specs::Stacks::pending))]
+    pub(crate) fn pop(&mut self) -> Option<Sort>
+        ensures popped { Pops (pending self.old.numbers.now self.old.depth) (pending self.new.numbers.now self.new.depth) result }
+        ensures depth { self.new.depth ≤ self.old.depth }
+    {
+        while self.depth > 0 {
+            let top = self.depth - 1;
+            if self.numbers[2 * top + 1] > 0 {
+                self.numbers[2 * top + 1] -= 1;
+                return Some(Sort::from(self.numbers[2 * top]));
+            }
+            self.depth = top;
+        }
+        None
+    }
+}
