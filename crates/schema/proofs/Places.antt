@@ -1,13 +1,14 @@
 -- Nodes at places of lent bytes.
-use Rattle.std.proofs.Common.{◌≡◌, ℕ, zero, suc, ◌-◌, ◌<◌, ◌≤◌, ◌⊎◌, List, [], ◌∷◌, ◌++◌, length, take, drop, Ok, Err, Result, sym, refl, ap, ◌∙◌, subst, inl, inr, arith, Bor}
-use Rattle.std.proofs.lemmas.Bool.{cases_eq}
+use Rattle.std.proofs.Common.{◌≡◌, ℕ, ◌-◌, ◌<◌, ◌≤◌, List, [], ◌∷◌, ◌++◌, length, take, drop, Ok, Err, Result, sym, refl, ap, ◌∙◌, subst, inl, inr, arith, Bor}
+use Rattle.std.specs.Result.{IsErrAnd}
 use Rattle.cbor.specs.declared.reading.Stop.{Stop}
 use Rattle.cbor.specs.Prefix.{Any}
 use Rattle.cbor.specs.Reading.{Stopped}
 use Rattle.cbor.proofs.Words.{stops_same}
 use Rattle.cbor.proofs.Places.{part_length}
-use Rattle.sequence.specs.Token.{Token, num, str, spell, number, string, Word, TokenOf}
+use Rattle.sequence.specs.Token.{Token, num, str, spell, Shape, number, string, Suits, Word, TokenOf}
 use Rattle.sequence.specs.Grammar.{next, Takes, Completes}
+use Rattle.sequence.specs.declared.reading.Parsed.{Parsed}
 use Rattle.sequence.specs.Reading.{TokenAt, SpelledAt}
 use Rattle.sequence.proofs.Grammars.{spelled_one, spelled_append, stop_first, stop_later, none_stands, same_token}
 use Rattle.schema.specs.declared.nodes.Schema.{Schema}
@@ -16,10 +17,9 @@ use Rattle.schema.specs.declared.nodes.Group.TheVariants.{Repeat}
 use Rattle.schema.specs.declared.nodes.Field.{Field}
 use Rattle.schema.specs.declared.nodes.Node.{Node}
 use Rattle.schema.specs.declared.nodes.Node.TheVariants.{OfSchema, OfGroup, OfField}
-use Rattle.schema.specs.declared.nodes.NextNode.{NextNode}
-use Rattle.schema.specs.Grammar.{Sort, a_rule, a_schema, a_group, the_fields, a_field, a_bound, a_last, a_literal, shape, many, after, after_schema, after_field, grammar}
-use Rattle.schema.specs.Nodes.{schema_own, inner_of_schema, own_tokens, inside}
-use Rattle.schema.specs.Reading.{RangeAt, Ranged, Numbered, Keyed, OfSort, Whole, Stuck, Ceases, RestAt, NodeAt}
+use Rattle.schema.specs.Grammar.{Sort, a_rule, a_schema, a_group, a_field, a_bound, a_last, a_literal, shape, many, after, after_schema, after_field, grammar}
+use Rattle.schema.specs.Nodes.{schema_own, inner_of_schema, field_own, inner_of_field, own_tokens, inside}
+use Rattle.schema.specs.Reading.{RangeAt, RangedAt, NumberedAt, KeyedAt, OfSort, Opens, Whole, Stuck, Ceases, RestAt, NodeAt}
 use Rattle.schema.proofs.Trees.{completable, as_rule, as_schema}
 
 -- in the first token, or after it
@@ -45,20 +45,39 @@ ceases_later : (s : Sort) (ss : List Sort) (t : Token) (bs : List ℕ) (at mid :
 ceases_later s ss t bs at mid stop x (h, k) o = (stop_later grammar s ss t bs at mid stop x.0 h, stuck_later s ss t bs at mid x k o)
 
 -- an opcode, and then the rest of the node
-pub node_whole : (s : Sort) (n : ℕ) (bs : List ℕ) (at mid : ℕ) (r : Result NextNode Stop) → TokenAt (shape s) (num n) bs at mid → RestAt s n bs mid r → NodeAt s bs at r
+node_whole : (s : Sort) (n : ℕ) (bs : List ℕ) (at mid : ℕ) (r : Result (Parsed Node) Stop) → TokenAt (shape s) (num n) bs at mid → RestAt s n bs mid r → NodeAt s bs at r
 unfolding Takes
 node_whole s n bs at mid (Ok x) t (o, ts, e, p, f) =
     let q = spelled_append (num n ∷ []) ts bs at mid x.next (spelled_one (shape s) (num n) bs at mid t) p in
-    (o, (let a = t.1 in let b = p.0 in omega arith), subst (λ us. SpelledAt us bs at x.next) (sym e) q, λ ss. subst (λ us. Takes grammar (s ∷ ss) us (inside x.node ++ ss)) (sym e) (t.0.2.1, f ss))
+    (o, (let a = t.1 in let b = p.0 in omega arith), subst (λ us. SpelledAt us bs at x.next) (sym e) q, λ ss. subst (λ us. Takes grammar (s ∷ ss) us (inside x.value ++ ss)) (sym e) (t.0.2.1, f ss))
 node_whole s n bs at mid (Err stop) t h = λ ss. ceases_later s ss (num n) bs at mid stop t (h ss).0 (h ss).1
 
 -- nothing but the opcode
-pub rest_none : (s : Sort) (n : ℕ) (x : Node) (bs : List ℕ) (mid : ℕ) → mid ≤ length bs → OfSort s x → own_tokens x ≡ num n ∷ [] → after s n ≡ inside x → RestAt s n bs mid (Ok (record { node = x; next = mid }))
+rest_none : (s : Sort) (n : ℕ) (x : Node) (bs : List ℕ) (mid : ℕ) → mid ≤ length bs → OfSort s x → own_tokens x ≡ num n ∷ [] → after s n ≡ inside x → RestAt s n bs mid (Ok (record { value = x; next = mid }))
 unfolding Takes spell
 rest_none s n x bs mid h o e f = (o, [], e, (omega arith, h, ap (λ k. take k (drop mid bs)) (let z : mid - mid ≡ 0 = omega arith in z)), λ ss. ap (λ ys. ys ++ ss) f)
 
-pub schema_none : (n : ℕ) (x : Schema) (bs : List ℕ) (at mid : ℕ) → TokenAt (shape a_schema) (num n) bs at mid → schema_own x ≡ num n ∷ [] → after_schema n ≡ inside (OfSchema x) → NodeAt a_schema bs at (Ok (record { node = OfSchema x; next = mid }))
-schema_none n x bs at mid t e f = node_whole a_schema n bs at mid (Ok (record { node = OfSchema x; next = mid })) t (rest_none a_schema n (OfSchema x) bs mid t.0.1 (inl refl) e f)
+-- a stop that is handed on
+pub handed_on : {T : Type 0} (P : Result T Stop → Type 0) (stop : Stop) (r : Result T Stop) → IsErrAnd r (λ y. y ≡ stop) → P (Err stop) → P r
+handed_on P stop (Ok x) e h = absurd e
+handed_on P stop (Err y) e h = subst (λ z. P (Err z)) (sym e) h
+
+-- what was read, mapped
+pub mapped : {T : Type 0} (P : Result (Parsed T) Stop → Type 0) (x : Parsed T) (value : T) (next : ℕ) → x.value ≡ value → x.next ≡ next → P (Ok (record { value = value; next = next })) → P (Ok x)
+mapped P x value next e f h = subst (λ n. P (Ok (record { value = x.value; next = n }))) (sym f) (subst (λ v. P (Ok (record { value = v; next = next }))) (sym e) h)
+
+pub node_stops : (s : Sort) (bs : List ℕ) (at : ℕ) (stop : Stop) (r : Result (Parsed Node) Stop) → IsErrAnd r (λ y. y ≡ stop) → Stopped (Any (TokenOf (shape s))) bs at stop → NodeAt s bs at r
+node_stops s bs at stop r e h = handed_on (NodeAt s bs at) stop r e (λ ss. ceases_first s ss bs at stop h)
+
+-- an opcode that is known
+opcode_is : (s : Shape) (n m : ℕ) (bs : List ℕ) (at mid : ℕ) → n ≡ m → TokenAt s (num n) bs at mid → TokenAt s (num m) bs at mid
+opcode_is s n m bs at mid e t = subst (λ k. TokenAt s (num k) bs at mid) e t
+
+pub node_after : (s : Sort) (n m : ℕ) (bs : List ℕ) (at mid : ℕ) (r : Result (Parsed Node) Stop) → n ≡ m → TokenAt (shape s) (num n) bs at mid → RestAt s m bs mid r → NodeAt s bs at r
+node_after s n m bs at mid r z t h = node_whole s m bs at mid r (opcode_is (shape s) n m bs at mid z t) h
+
+pub node_bare : (s : Sort) (n m : ℕ) (x : Node) (bs : List ℕ) (at mid : ℕ) (r : Result (Parsed Node) Stop) → n ≡ m → TokenAt (shape s) (num n) bs at mid → r ≡ Ok (record { value = x; next = mid }) → OfSort s x → own_tokens x ≡ num m ∷ [] → after s m ≡ inside x → NodeAt s bs at r
+node_bare s n m x bs at mid r z t e o f g = node_after s n m bs at mid r z t (subst (RestAt s m bs mid) (sym e) (rest_none s m x bs mid t.0.1 o f g))
 
 -- TWO NUMBERS
 
@@ -68,26 +87,18 @@ range_first bs at stop h = λ ss. ceases_first a_bound (a_last ∷ ss) bs at sto
 pub range_second : (bs : List ℕ) (at mid n : ℕ) (stop : Stop) → TokenAt number (num n) bs at mid → Stopped (Any (TokenOf number)) bs mid stop → RangeAt bs at (Err stop)
 range_second bs at mid n stop t h = λ ss. ceases_later a_bound (a_last ∷ ss) (num n) bs at mid stop t (ceases_first a_last ss bs mid stop h) (λ w. w)
 
-ranged_after : (n : ℕ) → 1 ≤ n → n ≤ 4 → after_schema n ≡ a_bound ∷ a_last ∷ []
-ranged_after zero h l = absurd (omega arith)
-ranged_after (suc zero) h l = refl
-ranged_after (suc (suc zero)) h l = refl
-ranged_after (suc (suc (suc zero))) h l = refl
-ranged_after (suc (suc (suc (suc zero)))) h l = refl
-ranged_after (suc (suc (suc (suc (suc n))))) h l = absurd (omega arith)
-
-pub ranged_stops : (n : ℕ) (bs : List ℕ) (at : ℕ) (stop : Stop) → 1 ≤ n → n ≤ 4 → RangeAt bs at (Err stop) → RestAt a_schema n bs at (Err stop)
-ranged_stops n bs at stop h l f = λ ss. subst (λ ys. Ceases (ys ++ ss) bs at stop × (Whole (ys ++ ss) → ⊥)) (sym (ranged_after n h l)) (f ss, λ w. w)
-
 none_inside : (x : Schema) → (inner_of_schema x).1 ≡ 0 → inside (OfSchema x) ≡ []
 unfolding many
 none_inside x e = ap (λ k. many k (inner_of_schema x).0) e
 
-pub ranged_there : (n lo hi : ℕ) (bs : List ℕ) (at end : ℕ) (x : Schema) → 1 ≤ n → n ≤ 4 → Word lo × Word hi × SpelledAt (num lo ∷ num hi ∷ []) bs at end → Ranged n lo hi x → RestAt a_schema n bs at (Ok (record { node = OfSchema x; next = end }))
+pub ranged_rest : (n : ℕ) (made : ℕ → ℕ → Schema → Type 0) (bs : List ℕ) (at : ℕ) (r : Result (Parsed Node) Stop) → RangedAt made bs at r → after_schema n ≡ a_bound ∷ a_last ∷ [] → ((lo hi : ℕ) (x : Schema) → made lo hi x → (schema_own x ≡ num n ∷ num lo ∷ num hi ∷ []) × ((inner_of_schema x).1 ≡ 0)) → RestAt a_schema n bs at r
 unfolding Takes
-ranged_there n lo hi bs at end x h l (a, b, p) (e, f) = (inl refl, num lo ∷ num hi ∷ [], e, p, λ ss. subst (λ ys. Takes grammar (ys ++ ss) (num lo ∷ num hi ∷ []) (inside (OfSchema x) ++ ss)) (sym (ranged_after n h l)) (subst (λ ys. Takes grammar (a_bound ∷ a_last ∷ ss) (num lo ∷ num hi ∷ []) (ys ++ ss)) (sym (none_inside x f)) (a, (b, refl))))
+ranged_rest n made bs at (Ok y) (lo, hi, x, m, e, a, b, p) l g =
+    let (o, f) = g lo hi x m in
+    subst (λ z. RestAt a_schema n bs at (Ok (record { value = z; next = y.next }))) (sym e) (inl refl, num lo ∷ num hi ∷ [], o, p, λ ss. subst (λ ys. Takes grammar (ys ++ ss) (num lo ∷ num hi ∷ []) (inside (OfSchema x) ++ ss)) (sym l) (subst (λ ys. Takes grammar (a_bound ∷ a_last ∷ ss) (num lo ∷ num hi ∷ []) (ys ++ ss)) (sym (none_inside x f)) (a, (b, refl))))
+ranged_rest n made bs at (Err stop) h l g = λ ss. subst (λ ys. Ceases (ys ++ ss) bs at stop × (Whole (ys ++ ss) → ⊥)) (sym l) (h ss, λ w. w)
 
-pub repeat_there : (lo hi : ℕ) (bs : List ℕ) (at end : ℕ) → Word lo × Word hi × SpelledAt (num lo ∷ num hi ∷ []) bs at end → RestAt a_group 4 bs at (Ok (record { node = OfGroup (Repeat lo hi); next = end }))
+pub repeat_there : (lo hi : ℕ) (bs : List ℕ) (at end : ℕ) → Word lo × Word hi × SpelledAt (num lo ∷ num hi ∷ []) bs at end → RestAt a_group 4 bs at (Ok (record { value = OfGroup (Repeat lo hi); next = end }))
 unfolding Takes many
 repeat_there lo hi bs at end (a, b, p) = (refl, num lo ∷ num hi ∷ [], refl, p, λ ss. (a, (b, refl)))
 
@@ -96,49 +107,27 @@ repeat_stops bs at stop f = λ ss. (f (a_group ∷ ss), λ w. w)
 
 -- ONE NUMBER
 
-abbrev Three : ℕ → Type 0
-Three n = (n ≡ 8) ⊎ ((n ≡ 9) ⊎ (n ≡ 10))
-
-three : (n : ℕ) → 8 ≤ n → n ≤ 10 → Three n
-three n h l = elim (cases_eq n 8) [ inl e ↦ inl e | inr e ↦ elim (cases_eq n 9) [ inl f ↦ inr (inl f) | inr f ↦ inr (inr (omega arith)) ] ]
-
-pub numbered_stops : (n : ℕ) (bs : List ℕ) (at : ℕ) (stop : Stop) → 8 ≤ n → n ≤ 10 → Stopped (Any (TokenOf number)) bs at stop → RestAt a_schema n bs at (Err stop)
-numbered_stops n bs at stop h l f = λ ss. elim (three n h l) [
-  | inl e ↦ subst (λ k. Ceases (after_schema k ++ ss) bs at stop × (Whole (after_schema k ++ ss) → ⊥)) (sym e) (ceases_first the_fields ss bs at stop f, λ w. w)
-  | inr (inl e) ↦ subst (λ k. Ceases (after_schema k ++ ss) bs at stop × (Whole (after_schema k ++ ss) → ⊥)) (sym e) (ceases_first a_last (a_schema ∷ ss) bs at stop f, λ w. w)
-  | inr (inr e) ↦ subst (λ k. Ceases (after_schema k ++ ss) bs at stop × (Whole (after_schema k ++ ss) → ⊥)) (sym e) (ceases_first a_last ss bs at stop f, λ w. w)
-]
-
-numbered_takes : (n k : ℕ) (x : Schema) (ss : List Sort) → 8 ≤ n → n ≤ 10 → Word k → Numbered n k x → Takes grammar (after_schema n ++ ss) (num k ∷ []) (inside (OfSchema x) ++ ss)
-unfolding Takes many
-numbered_takes n k x ss h l w (e, (f, g, j)) = elim (three n h l) [
-  | inl z ↦ subst (λ m. Takes grammar (after_schema m ++ ss) (num k ∷ []) (inside (OfSchema x) ++ ss)) (sym z) (w, ap (λ p. many p.1 p.0 ++ ss) (sym (f z)))
-  | inr (inl z) ↦ subst (λ m. Takes grammar (after_schema m ++ ss) (num k ∷ []) (inside (OfSchema x) ++ ss)) (sym z) (w, ap (λ p. many p.1 p.0 ++ ss) (sym (g z)))
-  | inr (inr z) ↦ subst (λ m. Takes grammar (after_schema m ++ ss) (num k ∷ []) (inside (OfSchema x) ++ ss)) (sym z) (w, ap (λ p. many p.1 p.0 ++ ss) (sym (j z)))
-]
-
-pub numbered_there : (n k : ℕ) (bs : List ℕ) (at end : ℕ) (x : Schema) → 8 ≤ n → n ≤ 10 → TokenAt number (num k) bs at end → Numbered n k x → RestAt a_schema n bs at (Ok (record { node = OfSchema x; next = end }))
-numbered_there n k bs at end x h l t f = (inl refl, num k ∷ [], f.0, spelled_one number (num k) bs at end t, λ ss. numbered_takes n k x ss h l t.0.2.1 f)
+pub numbered_rest : (n : ℕ) (s : Sort) (after_it : List Sort) (made : ℕ → Schema → Type 0) (bs : List ℕ) (at : ℕ) (r : Result (Parsed Node) Stop) → NumberedAt made bs at r → shape s ≡ number → (Opens s → ⊥) → after_schema n ≡ s ∷ after_it → ((k : ℕ) (x : Schema) → made k x → (schema_own x ≡ num n ∷ num k ∷ []) × ((ss : List Sort) → after s k ++ (after_it ++ ss) ≡ inside (OfSchema x) ++ ss)) → RestAt a_schema n bs at r
+unfolding Takes
+numbered_rest n s after_it made bs at (Ok y) (k, x, m, e, t) i j l g =
+    let (o, f) = g k x m in
+    subst (λ z. RestAt a_schema n bs at (Ok (record { value = z; next = y.next }))) (sym e) (inl refl, num k ∷ [], o, spelled_one number (num k) bs at y.next t, λ ss. subst (λ ys. Takes grammar (ys ++ ss) (num k ∷ []) (inside (OfSchema x) ++ ss)) (sym l) (subst (λ z. Suits z (num k)) (sym i) t.0.2.1, f ss))
+numbered_rest n s after_it made bs at (Err stop) h i j l g = λ ss. subst (λ ys. Ceases (ys ++ ss) bs at stop × (Whole (ys ++ ss) → ⊥)) (sym l) (ceases_first s (after_it ++ ss) bs at stop (subst (λ z. Stopped (Any (TokenOf z)) bs at stop) (sym i) h), j)
 
 -- STRINGS
 
-pub literal_there : (bs : List ℕ) (at end : ℕ) (item : Bor (List ℕ)) → TokenAt string (str item.now) bs at end → RestAt a_schema 5 bs at (Ok (record { node = OfSchema (Literal item); next = end }))
+pub literal_there : (bs : List ℕ) (at end : ℕ) (item : Bor (List ℕ)) → TokenAt string (str item.now) bs at end → RestAt a_schema 5 bs at (Ok (record { value = OfSchema (Literal item); next = end }))
 unfolding Takes many
 literal_there bs at end item t = (inl refl, str item.now ∷ [], refl, spelled_one string (str item.now) bs at end t, λ ss. (t.0.2.1, refl))
 
 -- FIELDS
 
-keyed_after : (n : ℕ) → n ≤ 1 → after_field n ≡ a_literal ∷ a_schema ∷ []
-keyed_after zero h = refl
-keyed_after (suc zero) h = refl
-keyed_after (suc (suc n)) h = absurd (omega arith)
-
-pub keyed_stops : (n : ℕ) (bs : List ℕ) (at : ℕ) (stop : Stop) → n ≤ 1 → Stopped (Any (TokenOf string)) bs at stop → RestAt a_field n bs at (Err stop)
-keyed_stops n bs at stop h f = λ ss. subst (λ ys. Ceases (ys ++ ss) bs at stop × (Whole (ys ++ ss) → ⊥)) (sym (keyed_after n h)) (ceases_first a_literal (a_schema ∷ ss) bs at stop f, λ w. w)
-
-pub keyed_there : (n : ℕ) (k : List ℕ) (bs : List ℕ) (at end : ℕ) (x : Field) → n ≤ 1 → TokenAt string (str k) bs at end → Keyed n k x → RestAt a_field n bs at (Ok (record { node = OfField x; next = end }))
+pub keyed_rest : (n : ℕ) (made : Bor (List ℕ) → Field → Type 0) (bs : List ℕ) (at : ℕ) (r : Result (Parsed Node) Stop) → KeyedAt made bs at r → after_field n ≡ a_literal ∷ a_schema ∷ [] → ((key : Bor (List ℕ)) (x : Field) → made key x → (field_own x ≡ num n ∷ str key.now ∷ []) × (inner_of_field x ≡ (a_schema, 1))) → RestAt a_field n bs at r
 unfolding Takes many
-keyed_there n k bs at end x h t (e, f) = (refl, str k ∷ [], e, spelled_one string (str k) bs at end t, λ ss. subst (λ ys. Takes grammar (ys ++ ss) (str k ∷ []) (inside (OfField x) ++ ss)) (sym (keyed_after n h)) (t.0.2.1, ap (λ p. many p.1 p.0 ++ ss) (sym f)))
+keyed_rest n made bs at (Ok y) (key, x, m, e, t) l g =
+    let (o, f) = g key x m in
+    subst (λ z. RestAt a_field n bs at (Ok (record { value = z; next = y.next }))) (sym e) (refl, str key.now ∷ [], o, spelled_one string (str key.now) bs at y.next t, λ ss. subst (λ ys. Takes grammar (ys ++ ss) (str key.now ∷ []) (inside (OfField x) ++ ss)) (sym l) (t.0.2.1, ap (λ p. many p.1 p.0 ++ ss) (sym f)))
+keyed_rest n made bs at (Err stop) h l g = λ ss. subst (λ ys. Ceases (ys ++ ss) bs at stop × (Whole (ys ++ ss) → ⊥)) (sym l) (ceases_first a_literal (a_schema ∷ ss) bs at stop h, λ w. w)
 
 -- RULES
 
@@ -162,8 +151,8 @@ unfolding Takes
 from_rule ss w ([], (e, h)) = absurd (let z : ◌≡◌ {A = ℕ} 0 1 = cc in omega arith)
 from_rule ss w (t ∷ ts, (e, h)) = (t ∷ ts, (e, as_schema ss [] t ts h))
 
-pub rule_node : (bs : List ℕ) (at : ℕ) (r : Result NextNode Stop) → NodeAt a_schema bs at r → NodeAt a_rule bs at r
-rule_node bs at (Ok x) (o, l, p, f) = (of_rule x.node o, l, p, λ ss. takes_as_rule ss (inside x.node ++ ss) (own_tokens x.node) (some_tokens (own_tokens x.node) bs at x.next l p) (f ss))
+pub rule_node : (bs : List ℕ) (at : ℕ) (r : Result (Parsed Node) Stop) → NodeAt a_schema bs at r → NodeAt a_rule bs at r
+rule_node bs at (Ok x) (o, l, p, f) = (of_rule x.value o, l, p, λ ss. takes_as_rule ss (inside x.value ++ ss) (own_tokens x.value) (some_tokens (own_tokens x.value) bs at x.next l p) (f ss))
   where
     of_rule : (x : Node) → OfSort a_schema x → OfSort a_rule x
     of_rule (OfSchema y) o = inr refl

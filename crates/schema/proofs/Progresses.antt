@@ -9,7 +9,7 @@ use Rattle.sequence.specs.Token.{Token, num, spell, number, TokenOf}
 use Rattle.sequence.specs.Grammar.{Takes, Completes}
 use Rattle.sequence.specs.Reading.{TokenAt, SpelledAt, PendingStops}
 use Rattle.sequence.proofs.Grammars.{takes_append, completes_free, spelled_one, spelled_append, stop_after, one_begins}
-use Rattle.schema.specs.declared.nodes.NextNode.{NextNode}
+use Rattle.sequence.specs.declared.reading.Parsed.{Parsed}
 use Rattle.schema.specs.declared.nodes.Schema.TheVariants.{Any, Unsigned, Negative, ByteLength, TextLength, Literal, Choice, Array, Map, Tag, Rule}
 use Rattle.schema.specs.declared.nodes.Group.TheVariants.{Empty, One, Sequence, FirstOf, Repeat}
 use Rattle.schema.specs.declared.nodes.Field.TheVariants.{Required, Optional, Others}
@@ -97,29 +97,29 @@ module _ (bs table : List ℕ) (q : NodeSort) (ss : List Sort) (at parts nodes :
   no_node stop f = (wrong_from bs stop (stop_after grammar (the_rules ∷ []) (sort_of q ∷ ss) h.read bs 0 at stop h.takes h.spelled (f ss).0), not_too_many bs h.read (sort_of q ∷ ss) at h.takes h.spelled (let z = h.few in let y = h.counted in omega arith) (f ss).1)
 
   -- one there
-  module _ (x : NextNode) (node : NodeAt (sort_of q) bs at (Ok x)) where
-    spelled : SpelledAt (h.read ++ own_tokens x.node) bs 0 x.next
-    spelled = spelled_append h.read (own_tokens x.node) bs 0 at x.next h.spelled node.2
+  module _ (x : Parsed Node) (node : NodeAt (sort_of q) bs at (Ok x)) where
+    spelled : SpelledAt (h.read ++ own_tokens x.value) bs 0 x.next
+    spelled = spelled_append h.read (own_tokens x.value) bs 0 at x.next h.spelled node.2
 
-    taking : Takes grammar (the_rules ∷ []) (h.read ++ own_tokens x.node) (inside x.node ++ ss)
-    taking = takes_append grammar (the_rules ∷ []) (sort_of q ∷ ss) (inside x.node ++ ss) h.read (own_tokens x.node) h.takes (node.3 ss)
+    taking : Takes grammar (the_rules ∷ []) (h.read ++ own_tokens x.value) (inside x.value ++ ss)
+    taking = takes_append grammar (the_rules ∷ []) (sort_of q ∷ ss) (inside x.value ++ ss) h.read (own_tokens x.value) h.takes (node.3 ss)
 
-    counting : parts_in (the_rules ∷ []) (h.read ++ own_tokens x.node) ≡ parts + (rule_part q + (1 + string_in x.node))
-    counting = parts_append (the_rules ∷ []) (sort_of q ∷ ss) h.read (own_tokens x.node) h.takes ∙ (λ i. sym h.counted i + node_weighs q x.node ss node.0 i)
+    counting : parts_in (the_rules ∷ []) (h.read ++ own_tokens x.value) ≡ parts + (rule_part q + (1 + string_in x.value))
+    counting = parts_append (the_rules ∷ []) (sort_of q ∷ ss) h.read (own_tokens x.value) h.takes ∙ (λ i. sym h.counted i + node_weighs q x.value ss node.0 i)
 
-    pub too_many : Whole ss → 8192 < parts + (rule_part q + (1 + string_in x.node)) → HasTooMany bs
-    too_many w l = (h.read ++ own_tokens x.node, inside x.node ++ ss, x.next, spelled, taking, whole_many (inner_of_node x.node).1 (inner_of_node x.node).0 ss (opens_inside x.node) w, subst (λ n. 8192 < n) (sym counting) l)
+    pub too_many : Whole ss → 8192 < parts + (rule_part q + (1 + string_in x.value)) → HasTooMany bs
+    too_many w l = (h.read ++ own_tokens x.value, inside x.value ++ ss, x.next, spelled, taking, whole_many (inner_of_node x.value).1 (inner_of_node x.value).0 ss (opens_inside x.value) w, subst (λ n. 8192 < n) (sym counting) l)
 
-    pub one_node : (rowed : List ℕ) (r : Run) (n : ℕ) → RowWritten table nodes x.node x.next rowed → run_of r ≡ inner_of_node x.node → n ≡ parts + (rule_part q + (1 + string_in x.node)) → n ≤ 8192 → Reached bs rowed (many r.count (sort_of r.sort) ++ ss) x.next n (nodes + 1)
+    pub one_node : (rowed : List ℕ) (r : Run) (n : ℕ) → RowWritten table nodes x.value x.next rowed → run_of r ≡ inner_of_node x.value → n ≡ parts + (rule_part q + (1 + string_in x.value)) → n ≤ 8192 → Reached bs rowed (many r.count (sort_of r.sort) ++ ss) x.next n (nodes + 1)
     one_node rowed r n row e m l = record {
       few = l;
-      read = h.read ++ own_tokens x.node;
+      read = h.read ++ own_tokens x.value;
       spelled = spelled;
-      takes = subst (λ rest. Takes grammar (the_rules ∷ []) (h.read ++ own_tokens x.node) rest) (sym (ap (λ y. many y.1 y.0 ++ ss) e)) taking;
+      takes = subst (λ rest. Takes grammar (the_rules ∷ []) (h.read ++ own_tokens x.value) rest) (sym (ap (λ y. many y.1 y.0 ++ ss) e)) taking;
       counted = m ∙ sym counting;
       listed = (let z = h.listed in omega arith);
       count = h.count;
-      tabled = ap (λ ts. ts ++ own_tokens x.node) h.tabled ∙ ap (λ ts. num h.count ∷ ts) (sym (row bs at node.2));
+      tabled = ap (λ ts. ts ++ own_tokens x.value) h.tabled ∙ ap (λ ts. num h.count ∷ ts) (sym (row bs at node.2));
     }
 
 -- a refusal that is handed on

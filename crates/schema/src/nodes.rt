@@ -1,13 +1,12 @@
 // The nodes of rules, each schema, group and field by itself, read from lent bytes.
-ghost use Rattle.std.specs.Prelude.{◌≡◌, ◌+◌, ◌<◌, ◌≤◌, List, ◌∷◌};
+ghost use Rattle.std.specs.Prelude.{◌≡◌, Ok};
 ghost use Rattle.schema.specs.Grammar.{a_schema, a_group, a_field};
-ghost use Rattle.schema.specs.Nodes.{sort_of, inner_of_node, run_of, string_in};
-ghost use Rattle.schema.specs.Reading.{RangeAt, Ranged, Numbered, PlainGroup, Keyed, RestAt, NodeAt};
+ghost use Rattle.schema.specs.Reading.{RangeAt, RangedAt, NumberedAt, KeyedAt, RestAt, NodeAt};
 
 use cbor::reading::{Head, Stop};
-use sequence::reading::{read_number, read_opcode, read_string};
+use sequence::reading::{Parsed, read_number, read_opcode, read_string};
 
-#[derive(Clone, Copy)]
+#[derive(Clone, Copy, Debug, PartialEq, Eq)]
 pub enum Schema<'a> {
     Any,
     Unsigned(u64, u64),
@@ -22,7 +21,7 @@ pub enum Schema<'a> {
     Rule(u64),
 }
 
-#[derive(Clone, Copy)]
+#[derive(Clone, Copy, Debug, PartialEq, Eq)]
 pub enum Group {
     Empty,
     One,
@@ -31,28 +30,22 @@ pub enum Group {
     Repeat(u64, u64),
 }
 
-#[derive(Clone, Copy)]
+#[derive(Clone, Copy, Debug, PartialEq, Eq)]
 pub enum Field<'a> {
     Required(&'a [u8]),
     Optional(&'a [u8]),
     Others,
 }
 
-#[derive(Clone, Copy)]
+#[derive(Clone, Copy, Debug, PartialEq, Eq)]
 pub enum Node<'a> {
     OfSchema(Schema<'a>),
     OfGroup(Group),
     OfField(Field<'a>),
 }
 
-#[derive(Clone, Copy)]
-pub struct NextNode<'a> {
-    pub node: Node<'a>,
-    pub next: usize,
-}
-
 // What a node may be wanted as.
-#[derive(Clone, Copy)]
+#[derive(Clone, Copy, Debug, PartialEq, Eq)]
 pub enum Sort {
     ARule,
     ASchema,
@@ -61,171 +54,139 @@ pub enum Sort {
 }
 
 // So many nodes of a sort.
-#[derive(Clone, Copy)]
+#[derive(Clone, Copy, Debug, PartialEq, Eq)]
 pub struct Run {
     pub sort: Sort,
     pub count: u64,
 }
 
-#[derive(Clone, Copy)]
-struct Range {
-    low: u64,
-    high: u64,
-    next: usize,
-}
-
-fn read_range(bytes: &[u8], at: usize) -> Result<Range, Stop>
+fn read_range(bytes: &[u8], at: usize) -> Result<Parsed<(u64, u64)>, Stop>
     ensures { RangeAt bytes.now at result }
 {
     let low = read_number(bytes, at)?;
     let high = read_number(bytes, low.next)?;
-    Ok(Range {
-        low: low.argument,
-        high: high.argument,
+    Ok(Parsed {
+        value: (low.argument, high.argument),
         next: high.next,
     })
 }
 
-fn ranged<'a>(opcode: u64, low: u64, high: u64) -> Schema<'a>
-    requires least { 1 ≤ opcode }
-    requires most { opcode ≤ 4 }
-    ensures { Ranged opcode low high result }
+// Nothing but the opcode.
+fn bare<'a>(node: Node<'a>, next: usize) -> Result<Parsed<Node<'a>>, Stop>
+    ensures { result ≡ Ok (record { value = node.entry; next = next }) }
 {
-    match opcode {
-        1 => Schema::Unsigned(low, high),
-        2 => Schema::Negative(low, high),
-        3 => Schema::ByteLength(low, high),
-        _ => Schema::TextLength(low, high),
-    }
+    Ok(Parsed { value: node, next })
 }
 
-fn numbered<'a>(opcode: u64, number: u64) -> Schema<'a>
-    requires least { 8 ≤ opcode }
-    requires most { opcode ≤ 10 }
-    ensures { Numbered opcode number result }
+// A schema made of the two numbers that follow its opcode.
+fn read_ranged<'a, F: FnOnce(u64, u64) -> Schema<'a>>(
+    bytes: &'a [u8],
+    at: usize,
+    make: F,
+) -> Result<Parsed<Node<'a>>, Stop>
+    requires { F.IsAlwaysCallable make }
+    ensures { RangedAt (F.post make) bytes.now at result }
 {
-    match opcode {
-        8 => Schema::Map(number),
-        9 => Schema::Tag(number),
-        _ => Schema::Rule(number),
-    }
-}
-
-fn read_ranged<'a>(bytes: &'a [u8], opcode: Head) -> Result<NextNode<'a>, Stop>
-    requires least { 1 ≤ opcode.argument }
-    requires most { opcode.argument ≤ 4 }
-    ensures { RestAt a_schema opcode.argument bytes.now opcode.next result }
-{
-    let range = read_range(bytes, opcode.next)?;
-    Ok(NextNode {
-        node: Node::OfSchema(ranged(opcode.argument, range.low, range.high)),
-        next: range.next,
+    // Tried: `map`. No proof is made of a closure that calls `make`, whose result holds the bytes.
+    let Parsed {
+        value: (low, high),
+        next,
+    } = read_range(bytes, at)?;
+    Ok(Parsed {
+        value: Node::OfSchema(make(low, high)),
+        next,
     })
 }
 
-fn read_literal<'a>(bytes: &'a [u8], at: usize) -> Result<NextNode<'a>, Stop>
+fn read_literal<'a>(bytes: &'a [u8], at: usize) -> Result<Parsed<Node<'a>>, Stop>
     ensures { RestAt a_schema 5 bytes.now at result }
 {
     let item = read_string(bytes, at)?;
-    Ok(NextNode {
-        node: Node::OfSchema(Schema::Literal(item.value)),
-        next: item.next,
-    })
+    Ok(item.map(|item| Node::OfSchema(Schema::Literal(item))))
 }
 
-fn read_numbered<'a>(bytes: &'a [u8], opcode: Head) -> Result<NextNode<'a>, Stop>
-    requires least { 8 ≤ opcode.argument }
-    requires most { opcode.argument ≤ 10 }
-    ensures { RestAt a_schema opcode.argument bytes.now opcode.next result }
+// A schema made of the number that follows its opcode.
+fn read_numbered<'a, F: FnOnce(u64) -> Schema<'a>>(
+    bytes: &'a [u8],
+    at: usize,
+    make: F,
+) -> Result<Parsed<Node<'a>>, Stop>
+    requires { F.IsAlwaysCallable make }
+    ensures { NumberedAt (F.post make) bytes.now at result }
 {
-    let number = read_number(bytes, opcode.next)?;
-    Ok(NextNode {
-        node: Node::OfSchema(numbered(opcode.argument, number.argument)),
-        next: number.next,
+    let Head { argument, next } = read_number(bytes, at)?;
+    Ok(Parsed {
+        value: Node::OfSchema(make(argument)),
+        next,
     })
 }
 
-pub fn read_schema<'a>(bytes: &'a [u8], at: usize) -> Result<NextNode<'a>, Stop>
+pub fn read_schema<'a>(bytes: &'a [u8], at: usize) -> Result<Parsed<Node<'a>>, Stop>
     ensures { NodeAt a_schema bytes.now at result }
 {
     let opcode = read_opcode(bytes, at, 10)?;
+    // Here the number that was read becomes its enum.
     match opcode.argument {
-        0 => Ok(NextNode {
-            node: Node::OfSchema(Schema::Any),
-            next: opcode.next,
-        }),
-        1..=4 => read_ranged(bytes, opcode),
+        0 => bare(Node::OfSchema(Schema::Any), opcode.next),
+        1 => read_ranged(bytes, opcode.next, Schema::Unsigned),
+        2 => read_ranged(bytes, opcode.next, Schema::Negative),
+        3 => read_ranged(bytes, opcode.next, Schema::ByteLength),
+        4 => read_ranged(bytes, opcode.next, Schema::TextLength),
         5 => read_literal(bytes, opcode.next),
-        6 => Ok(NextNode {
-            node: Node::OfSchema(Schema::Choice),
-            next: opcode.next,
-        }),
-        7 => Ok(NextNode {
-            node: Node::OfSchema(Schema::Array),
-            next: opcode.next,
-        }),
-        _ => read_numbered(bytes, opcode),
+        6 => bare(Node::OfSchema(Schema::Choice), opcode.next),
+        7 => bare(Node::OfSchema(Schema::Array), opcode.next),
+        8 => read_numbered(bytes, opcode.next, Schema::Map),
+        9 => read_numbered(bytes, opcode.next, Schema::Tag),
+        _ => read_numbered(bytes, opcode.next, Schema::Rule),
     }
 }
 
-fn plain_group(opcode: u64) -> Group
-    requires { opcode ≤ 3 }
-    ensures { PlainGroup opcode result }
-{
-    match opcode {
-        0 => Group::Empty,
-        1 => Group::One,
-        2 => Group::Sequence,
-        _ => Group::FirstOf,
-    }
-}
-
-pub fn read_group<'a>(bytes: &'a [u8], at: usize) -> Result<NextNode<'a>, Stop>
+pub fn read_group<'a>(bytes: &'a [u8], at: usize) -> Result<Parsed<Node<'a>>, Stop>
     ensures { NodeAt a_group bytes.now at result }
 {
     let opcode = read_opcode(bytes, at, 4)?;
-    if opcode.argument == 4 {
-        return read_repeat(bytes, opcode.next);
+    // Here the number that was read becomes its enum.
+    match opcode.argument {
+        0 => bare(Node::OfGroup(Group::Empty), opcode.next),
+        1 => bare(Node::OfGroup(Group::One), opcode.next),
+        2 => bare(Node::OfGroup(Group::Sequence), opcode.next),
+        3 => bare(Node::OfGroup(Group::FirstOf), opcode.next),
+        _ => read_repeat(bytes, opcode.next),
     }
-    Ok(NextNode {
-        node: Node::OfGroup(plain_group(opcode.argument)),
-        next: opcode.next,
-    })
 }
 
-fn read_repeat<'a>(bytes: &'a [u8], at: usize) -> Result<NextNode<'a>, Stop>
+fn read_repeat<'a>(bytes: &'a [u8], at: usize) -> Result<Parsed<Node<'a>>, Stop>
     ensures { RestAt a_group 4 bytes.now at result }
 {
     let range = read_range(bytes, at)?;
-    Ok(NextNode {
-        node: Node::OfGroup(Group::Repeat(range.low, range.high)),
-        next: range.next,
+    Ok(range.map(|(low, high)| Node::OfGroup(Group::Repeat(low, high))))
+}
+
+// A field made of the key that follows its opcode.
+fn read_keyed<'a, F: FnOnce(&'a [u8]) -> Field<'a>>(
+    bytes: &'a [u8],
+    at: usize,
+    make: F,
+) -> Result<Parsed<Node<'a>>, Stop>
+    requires { F.IsAlwaysCallable make }
+    ensures { KeyedAt (F.post make) bytes.now at result }
+{
+    // Tried: `map`. No proof is made of a closure that calls `make`, whose result holds the bytes.
+    let Parsed { value: key, next } = read_string(bytes, at)?;
+    Ok(Parsed {
+        value: Node::OfField(make(key)),
+        next,
     })
 }
 
-fn keyed<'a>(opcode: u64, key: &'a [u8]) -> Field<'a>
-    requires { opcode ≤ 1 }
-    ensures { Keyed opcode key.now result }
-{
-    match opcode {
-        0 => Field::Required(key),
-        _ => Field::Optional(key),
-    }
-}
-
-pub fn read_field<'a>(bytes: &'a [u8], at: usize) -> Result<NextNode<'a>, Stop>
+pub fn read_field<'a>(bytes: &'a [u8], at: usize) -> Result<Parsed<Node<'a>>, Stop>
     ensures { NodeAt a_field bytes.now at result }
 {
     let opcode = read_opcode(bytes, at, 2)?;
-    if opcode.argument == 2 {
-        return Ok(NextNode {
-            node: Node::OfField(Field::Others),
-            next: opcode.next,
-        });
+    // Here the number that was read becomes its enum.
+    match opcode.argument {
+        0 => read_keyed(bytes, opcode.next, Field::Required),
+        1 => read_keyed(bytes, opcode.next, Field::Optional),
+        _ => bare(Node::OfField(Field::Others), opcode.next),
     }
-    let key = read_string(bytes, opcode.next)?;
-    Ok(NextNode {
-        node: Node::OfField(keyed(opcode.argument, key.value)),
-        next: key.next,
-    })
 }

@@ -32,14 +32,14 @@ impl Reader<'_, '_> {
         ensures same_table { self.new.table.ghost_name ≡ self.old.table.ghost_name }
     {
         let read = read_node(self.bytes, self.at, sort)?;
-        let parts = self.parts.saturating_add(read.node.parts(sort));
+        let parts = self.parts.saturating_add(read.value.parts(sort));
         if parts > MOST_PARTS {
             return Err(NoRules::TooLarge);
         }
-        write_row(self.table, self.nodes, read.node, read.next);
+        write_row(self.table, self.nodes, read.value, read.next);
         self.at = read.next;
         self.parts = parts;
         self.nodes += 1;
-        Ok(read.node.inner())
+        Ok(read.value.inner())
     }
 }

@@ -3,12 +3,15 @@ ghost use Rattle.std.specs.Prelude.{◌≡◌, ◌+◌, min};
 ghost use Rattle.schema.specs.Nodes.{sort_of, inner_of_schema, inner_of_node, run_of, string_in, rule_part};
 ghost use Rattle.schema.specs.Reading.{NodeAt};
 
-use crate::nodes::{
-    Field, Group, NextNode, Node, Run, Schema, Sort, read_field, read_group, read_schema,
-};
+use crate::nodes::{Field, Group, Node, Run, Schema, Sort, read_field, read_group, read_schema};
 use cbor::reading::Stop;
+use sequence::reading::Parsed;
 
-pub(crate) fn read_node<'a>(bytes: &'a [u8], at: usize, sort: Sort) -> Result<NextNode<'a>, Stop>
+pub(crate) fn read_node<'a>(
+    bytes: &'a [u8],
+    at: usize,
+    sort: Sort,
+) -> Result<Parsed<Node<'a>>, Stop>
     ensures { NodeAt (sort_of sort) bytes.now at result }
 {
     match sort {

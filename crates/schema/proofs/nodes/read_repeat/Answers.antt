@@ -1,12 +1,13 @@
-use Rattle.std.proofs.lemmas.Result.{err_from_is_err_and}
-use Rattle.schema.proofs.Places.{repeat_stops, repeat_there}
+use Rattle.std.proofs.Common.{rules}
+use Rattle.schema.specs.declared.nodes.Node.TheVariants.{OfGroup}
+use Rattle.schema.specs.declared.nodes.Group.TheVariants.{Repeat}
+use Rattle.schema.specs.Grammar.{a_group}
+use Rattle.schema.specs.Reading.{RestAt}
+use Rattle.schema.proofs.Places.{repeat_stops, repeat_there, handed_on, mapped}
 use Rattle.schema.proofs.nodes.read_repeat.Goals as goal
 
 pub returns-in_err-range : goal.returns-in_err-range
-returns-in_err-range c =
-    let p = err_from_is_err_and c.from_residual.result c.from_residual.ensures.1 in
-    let s = c.in_err-range.field-0.0 in
-    rw (p.1, p.2) (repeat_stops c.args.bytes.now c.args.at s c.in_err-range.ensures)
+returns-in_err-range c = handed_on (RestAt a_group 4 _ _) _ _ c.from_residual.ensures.1 (repeat_stops _ _ _ c.in_err-range.ensures)
 
 pub returns : goal.returns
-returns c = repeat_there c.in_ok-range.range.low c.in_ok-range.range.high c.args.bytes.now c.args.at c.in_ok-range.range.next c.in_ok-range.ensures
+returns c = mapped (RestAt a_group 4 _ _) _ (OfGroup (Repeat c.in_ok-range.range.value.0 c.in_ok-range.range.value.1)) _ (search rules) c.map.ensures.next (repeat_there _ _ _ _ _ c.in_ok-range.ensures)
