@@ -12,30 +12,10 @@ use items::comparing::{Comparison, compare};
 use items::skipping::item_at;
 use items::text::first_wrong;
 use std::alloc::Global;
-use std::io::{BufRead, BufReader};
 
 fn main(rt: HostRuntime) -> anyhow::Result<()> {
     let heap = rt.alloc();
-    let mut cases = 0u64;
-    let mut differ = 0u64;
-    for line in BufReader::new(heap, rt.stdin())?.lines(heap) {
-        let line = line?;
-        let case = line.split('#').next().unwrap_or("");
-        if case.trim().is_empty() {
-            continue;
-        }
-        let Some((asked, expected)) = case.split_once("=>") else {
-            return Err(anyhow!("a line without =>"));
-        };
-        let told = told(heap, asked)?;
-        cases = cases.saturating_add(1);
-        if told.as_str() != expected.trim() {
-            differ = differ.saturating_add(1);
-            println!(rt; "{case}: {told}")?;
-        }
-    }
-    println!(rt; "{cases} cases, {differ} told otherwise")?;
-    Ok(())
+    tables::go_through(&rt, |asked| told(heap, asked))
 }
 
 fn told(heap: Global, asked: &str) -> anyhow::Result<String> {
