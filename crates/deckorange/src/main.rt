@@ -36,6 +36,7 @@ fn run(rt: &HostRuntime) -> Result<(), Fault> {
         }
         Command::AnswerFile(name) => match File::open(rt, name.as_str()) {
             Ok(mut file) => Responder::new(heap, rt.stdout())?.answer_all(name, &mut file),
+            // No `map_err`: its closure would take `name`, which the other arm takes.
             Err(reason) => Err(Fault::Input { name, reason }),
         },
     }

@@ -60,6 +60,7 @@ impl Responder {
                 Ok(Filled::Enough) => {}
                 Ok(Filled::Ended) => return self.answer_rest(),
                 Ok(Filled::NoRoom) => return Err(Fault::TooLarge),
+                // No `map_err`: its closure would take `name` in each round.
                 Err(reason) => return Err(Fault::Input { name, reason }),
             }
         }

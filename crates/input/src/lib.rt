@@ -16,6 +16,7 @@ const FIRST: usize = 256 * 1024;
 
 // bytes[start..end] is read and not yet taken. All the memory of `bytes` is obtained as it is made,
 // and its length is how much of that has been made ready to be read into.
+// Two places beside a Vec, since std's BufReader holds no least number of bytes, and what a VecDeque holds is in two pieces.
 #[derive(Drop)]
 pub struct Window {
     bytes: Vec<u8>,

@@ -6,7 +6,7 @@
 
 #![tactic(auto)]
 
-use anyhow::anyhow;
+use anyhow::{Context, anyhow};
 use checker::{LENT, Verdict, check};
 use items::comparing::{Comparison, compare};
 use items::skipping::item_at;
@@ -53,9 +53,7 @@ fn item_told(heap: Global, asked: &str) -> anyhow::Result<String> {
 // Of a length and bytes: the first byte with which no text of that length goes on.
 fn text_told(heap: Global, asked: &str) -> anyhow::Result<String> {
     let (size, digits) = asked.trim().split_once(' ').unwrap_or((asked.trim(), ""));
-    let Ok(size) = size.parse::<u64>() else {
-        return Err(anyhow!("a text without a length"));
-    };
+    let size = size.parse().ok().context("a text without a length")?;
     let bytes = hex::decode(heap, digits)?;
     match first_wrong(bytes.as_slice(), size) {
         Some(place) => Ok(format!(in heap; "wrong at {place}")?),
@@ -65,9 +63,7 @@ fn text_told(heap: Global, asked: &str) -> anyhow::Result<String> {
 
 // Of two byte strings: which comes first, by which index.
 fn order_told(heap: Global, asked: &str) -> anyhow::Result<String> {
-    let Some((left, right)) = asked.split_once(',') else {
-        return Err(anyhow!("no two byte strings"));
-    };
+    let (left, right) = asked.split_once(',').context("no two byte strings")?;
     let left = hex::decode(heap, left.trim())?;
     let right = hex::decode(heap, right.trim())?;
     match compare(left.as_slice(), right.as_slice()) {

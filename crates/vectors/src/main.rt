@@ -6,7 +6,7 @@
 #![tactic(auto)]
 
 use answer::{LENT, answer};
-use anyhow::anyhow;
+use anyhow::{Context, anyhow};
 use schema::nodes::Node;
 use schema::reading::{NoRules, STACK, read_rules};
 use schema::table::{field_at, group_at, schema_at};
@@ -41,10 +41,9 @@ fn answer_told(heap: Global, bytes: &[u8], lent: &mut [u64]) -> anyhow::Result<S
 }
 
 fn rules_told(heap: Global, bytes: &[u8], lent: &mut [u64]) -> anyhow::Result<String> {
-    if lent.len() < STACK {
-        return Err(anyhow!("too little is lent"));
-    }
-    let (stack, table) = lent.split_at_mut(STACK);
+    let (stack, table) = lent
+        .split_at_mut_checked(STACK)
+        .context("too little is lent")?;
     match read_rules(bytes, stack, table) {
         Ok(rules) if writes_back(heap, bytes, table, rules.nodes)? => {
             Ok(format!(in heap; "{} parts", rules.parts)?)
