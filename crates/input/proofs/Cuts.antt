@@ -1,16 +1,10 @@
--- The part of a list from one place to another: how long it is, and what becomes of it as the list is cut, moved, or written to behind it.
-use Rattle.std.proofs.Common.{◌≡◌, ℕ, ◌+◌, ◌-◌, ◌≤◌, List, [], ◌++◌, length, take, drop, sym, ap, ◌∙◌, append_assoc, append-nil, arith, take-add}
+-- The part of a list from one place to another: what becomes of it as the list is moved, or written to behind it.
+use Rattle.std.proofs.Common.{◌≡◌, ℕ, ◌+◌, ◌-◌, ◌≤◌, List, [], ◌++◌, length, take, drop, sym, ap, ◌∙◌, append-nil, arith, take-add}
 use lib.Seq.{paste}
 use Rattle.std.proofs.lemmas.List.Edits.{take-paste}
 use Rattle.std.proofs.lemmas.List.{length-take, length-drop, take-take, drop-append-le}
 use Rattle.std.proofs.lemmas.Slice.{between_is}
-use Rattle.input.specs.declared.Window.TheInside.{Inside}
-use Rattle.input.specs.Unread.{unread, IsWithin, Grown}
-
-pub unread_length : (w : Inside) → IsWithin w → length (unread w) ≡ w.end - w.start
-unread_length w h =
-    let within = h.within in
-    simp (length-drop, length-take) (omega arith)
+use Rattle.input.specs.Unread.{Grown}
 
 -- what `copy_within` puts at the front
 pub moved : (s e : ℕ) (xs : List ℕ) → s ≤ e → e ≤ length xs → take (e - s) (paste xs 0 (drop s xs) (e - s)) ≡ drop s (take e xs)
@@ -35,6 +29,3 @@ grown s e n xs ys h k p =
 
 pub same_grown : (xs ys : List ℕ) → ys ≡ xs → Grown xs ys
 same_grown xs ys p = ([], p ∙ sym (append-nil xs))
-
-pub grown_trans : (xs ys zs : List ℕ) → Grown xs ys → Grown ys zs → Grown xs zs
-grown_trans xs ys zs (a, p) (b, q) = (a ++ b, q ∙ (ap (λ (l : List ℕ). l ++ b) p ∙ append_assoc xs a b))

@@ -34,7 +34,7 @@ impl Window {
     pub fn is_empty(&self) -> bool
         ensures { IsTrue result ↔ (self.now ≡ []) }
     {
-        self.start == self.end
+        self.len() == 0
     }
 
     // Takes the first `n` bytes, or all if there are fewer.
