@@ -30,7 +30,7 @@ impl Window {
         Err(io::Error::from(ErrorKind::TimedOut))
     }
 
-    // One read behind what is held, which is at the front first.
+    // Moves what is held to the front, and reads once behind it.
     fn read_more<R: Read>(&mut self, reader: &mut R) -> io::Result<usize>
         requires { length self.old < most }
         ensures grown { Grown self.old self.new }
