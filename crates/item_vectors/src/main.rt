@@ -33,11 +33,10 @@ fn told(heap: Global, asked: &str) -> anyhow::Result<String> {
 fn verdict_told(heap: Global, asked: &str) -> anyhow::Result<String> {
     let bytes = hex::decode(heap, asked.trim())?;
     let mut lent = [0u64; LENT];
-    match check(bytes.as_slice(), &mut lent) {
-        Ok(Verdict::Complete) => Ok(format!(in heap; "complete")?),
-        Ok(Verdict::Prefix) => Ok(format!(in heap; "prefix")?),
-        Ok(Verdict::Wrong(place)) => Ok(format!(in heap; "wrong at {place}")?),
-        Err(_) => Err(anyhow!("not checked")),
+    match check(bytes.as_slice(), &mut lent).map_err(|_| anyhow!("not checked"))? {
+        Verdict::Complete => Ok(format!(in heap; "complete")?),
+        Verdict::Prefix => Ok(format!(in heap; "prefix")?),
+        Verdict::Wrong(place) => Ok(format!(in heap; "wrong at {place}")?),
     }
 }
 

@@ -34,10 +34,8 @@ fn bytes_of(heap: Global, digits: &str) -> anyhow::Result<Vec<u8>> {
 }
 
 fn answer_told(heap: Global, bytes: &[u8], lent: &mut [u64]) -> anyhow::Result<String> {
-    match answer(bytes, lent) {
-        Ok(answer) => Ok(format!(in heap; "{answer}")?),
-        Err(_) => Err(anyhow!("too little is lent")),
-    }
+    let answer = answer(bytes, lent).map_err(|_| anyhow!("too little is lent"))?;
+    Ok(format!(in heap; "{answer}")?)
 }
 
 fn rules_told(heap: Global, bytes: &[u8], lent: &mut [u64]) -> anyhow::Result<String> {
@@ -62,8 +60,7 @@ fn node_at<'a>(bytes: &'a [u8], table: &[u64], index: usize) -> Option<Node<'a>>
     if let Some(group) = group_at(bytes, table, index) {
         return Some(Node::OfGroup(group));
     }
-    let field = field_at(bytes, table, index)?;
-    Some(Node::OfField(field))
+    field_at(bytes, table, index).map(Node::OfField)
 }
 
 // Whether the nodes of the table, written one after another, are the bytes that follow the number of rules.
