@@ -2,7 +2,7 @@
 use Rattle.std.proofs.Common.{◌≡◌, ℕ, ◌+◌, ◌-◌, ◌≤◌, List, [], ◌++◌, length, take, drop, sym, ap, ◌∙◌, append-nil, arith, take-add}
 use lib.Seq.{paste}
 use Rattle.std.proofs.lemmas.List.Edits.{take-paste}
-use Rattle.std.proofs.lemmas.List.{length-take, length-drop, take-take, drop-append-le}
+use Rattle.std.proofs.lemmas.List.{length-take, length-drop, drop-append-le}
 use Rattle.std.proofs.lemmas.Slice.{between_is}
 use Rattle.input.specs.Unread.{Grown}
 
@@ -13,11 +13,6 @@ moved s e xs h k =
     let low : 0 ≤ length xs = omega arith in
     let same : e - s ≡ 0 + (e - s) = omega arith in
     ap (λ (m : ℕ). take m (paste xs 0 (drop s xs) (e - s))) same ∙ take-paste xs 0 (drop s xs) (e - s) low cut ∙ between_is xs s e
-
--- a part stays where the first n elements do
-pub kept : (s e n : ℕ) (xs ys : List ℕ) → e ≤ n → take n ys ≡ take n xs → drop s (take e ys) ≡ drop s (take e xs)
-kept s e n xs ys h p =
-    ap (λ (l : List ℕ). drop s l) (sym (take-take e n ys h) ∙ ap (λ (l : List ℕ). take e l) p ∙ take-take e n xs h)
 
 -- what a read adds behind the part from s to e, where it leaves the first e elements
 pub grown : (s e n : ℕ) (xs ys : List ℕ) → s ≤ e → e ≤ length xs → take e ys ≡ take e xs → Grown (drop s (take e xs)) (drop s (take (e + n) ys))

@@ -41,26 +41,28 @@ impl Window {
             self.end -= self.start;
             self.start = 0;
         }
-        if self.end == self.bytes.len() {
-            lengthen(&mut self.bytes);
-        }
+        make_room(&mut self.bytes, self.end);
         let n = read_behind(reader, &mut self.bytes, self.end)?;
         self.end += n;
         Ok(n)
     }
 }
 
-// Makes twice as many bytes ready, in the memory that is there, so that `resize` does not fail.
-fn lengthen(bytes: &mut Vec<u8>)
-    requires shorter { vec_len bytes.old < most }
+// Makes room for a byte or more from `end` on: makes twice as many ready, in the memory that is there, so that `resize` does not fail.
+fn make_room(bytes: &mut Vec<u8>, end: usize)
+    requires within { end ≤ vec_len bytes.old }
+    requires less { end < most }
+    requires bounded { vec_len bytes.old ≤ most }
     requires reserved { most ≤ vec_capacity bytes.old }
-    ensures same { take (vec_len bytes.old) bytes.new.items ≡ take (vec_len bytes.old) bytes.old.items }
-    ensures longer { vec_len bytes.old < vec_len bytes.new }
+    ensures front { take end bytes.new.items ≡ take end bytes.old.items }
+    ensures room { end < vec_len bytes.new }
     ensures bounded { vec_len bytes.new ≤ most }
-    ensures reserved { vec_capacity bytes.old ≤ vec_capacity bytes.new }
+    ensures reserved { most ≤ vec_capacity bytes.new }
 {
-    let longer = (2 * bytes.len()).max(FIRST).min(BUFFER);
-    bytes.resize(longer, 0).unwrap();
+    if end == bytes.len() {
+        let longer = (2 * end).max(FIRST).min(BUFFER);
+        bytes.resize(longer, 0).unwrap();
+    }
 }
 
 // One read into `bytes` from `end` on. There is room for it, so 0 says that the input has ended.
