@@ -5,8 +5,7 @@ items come after it.
 
   tests/items.py COUNT [SEED]
 """
-import random
-import sys
+import table
 
 ENDLESS = 2 ** 64
 
@@ -168,28 +167,21 @@ def random_item(rng, depth):
     return head(7, rng.choice((0, 20, 23, 32, 254, 255)))
 
 
-def case(rng):
+def flip_bit(rng, data):
+    data[rng.randrange(len(data))] ^= 1 << rng.randrange(8)
+
+
+def item_bytes(rng):
     """An item, cut off or with a byte changed, or any bytes."""
     if not rng.randrange(8):
         return rng.randbytes(rng.choice((0, 1, 2, 5, 23, 24, 255, 256, 300)))
-    data = bytearray(random_item(rng, rng.choice((1, 2, 3, 5))))
-    change = rng.randrange(4)
-    if change == 0:
-        del data[rng.randrange(len(data) + 1):]
-    elif change == 1:
-        data[rng.randrange(len(data))] = rng.randrange(256)
-    elif change == 2:
-        data[rng.randrange(len(data))] ^= 1 << rng.randrange(8)
-    return bytes(data)
+    return table.changed(rng, random_item(rng, rng.choice((1, 2, 3, 5))), lambda data: flip_bit(rng, data))
 
 
-def main():
-    count = int(sys.argv[1])
-    rng = random.Random(int(sys.argv[2]) if len(sys.argv) > 2 else 1)
-    for _ in range(count):
-        data = case(rng)
-        print("check", data.hex(), "=>", verdict(data))
+def case(rng):
+    data = item_bytes(rng)
+    return f"check {data.hex()}", verdict(data)
 
 
 if __name__ == "__main__":
-    main()
+    table.print_cases(case)

@@ -4,10 +4,8 @@ with a byte changed. The answers come from a reader of its own, byte by byte, th
 
   tests/requests.py COUNT [SEED]
 """
-import random
-import sys
-
 import rules
+import table
 from rules import head, string
 
 
@@ -91,20 +89,10 @@ def place(data):
     return None
 
 
-def main():
-    count = int(sys.argv[1])
-    rng = random.Random(int(sys.argv[2]) if len(sys.argv) > 2 else 1)
-    for _ in range(count):
-        data = bytearray(request(rng))
-        change = rng.randrange(4)
-        if change == 0:
-            del data[rng.randrange(len(data) + 1):]
-        elif change == 1:
-            data[rng.randrange(min(len(data), 12))] = rng.randrange(256)
-        elif change == 2:
-            data += rng.randbytes(3)
-        found = place(data)
-        print(data.hex(), "=>", "0 6 0" if found is None else f"0 1 {found}")
+def case(rng):
+    data = table.changed(rng, request(rng), lambda data: data.extend(rng.randbytes(3)), within=12)
+    found = place(data)
+    return data.hex(), "0 6 0" if found is None else f"0 1 {found}"
 
 
-main()
+table.print_cases(case)

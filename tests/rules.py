@@ -4,8 +4,9 @@ nest deep. What stands beside comes from a reader of its own, by recursion, that
 
   tests/rules.py COUNT [SEED]
 """
-import random
 import sys
+
+import table
 
 sys.setrecursionlimit(100000)
 MOST = 8192
@@ -193,20 +194,14 @@ def large():
     yield head(0, 1) + b"\x06" * 8100 + b"\x0b"
 
 
+def case(data):
+    return f"rules {data.hex()}", told(data)
+
+
 def main():
-    rng = random.Random(int(sys.argv[2]) if len(sys.argv) > 2 else 1)
     for data in large():
-        print("rules", data.hex(), "=>", told(data))
-    for _ in range(int(sys.argv[1])):
-        data = bytearray(rules(rng))
-        change = rng.randrange(4)
-        if change == 0:
-            del data[rng.randrange(len(data) + 1):]
-        elif change == 1:
-            data[rng.randrange(len(data))] = rng.randrange(256)
-        elif change == 2:
-            data += rng.randbytes(2)
-        print("rules", data.hex(), "=>", told(bytes(data)))
+        table.print_case(*case(data))
+    table.print_cases(lambda rng: case(table.changed(rng, rules(rng), lambda data: data.extend(rng.randbytes(2)))))
 
 
 if __name__ == "__main__":

@@ -3,45 +3,30 @@ ghost use Rattle.std.specs.Prelude.{◌≡◌, is_ok};
 
 use input::BUFFER;
 use std::alloc::AllocError;
-use std::{fmt, io};
+use std::io;
+use thiserror::Error;
 
-#[derive(Drop)]
+#[derive(Debug, Drop, Error)]
 pub enum Fault {
+    #[error("the arguments cannot be read: {0}")]
     Arguments(io::Error),
+    #[error("more than one argument; see deckorange --help")]
     TooManyArguments,
+    #[error("unknown option {0}; see deckorange --help")]
     UnknownOption(String),
+    #[error("{name}: {reason}")]
     Input { name: String, reason: io::Error },
+    #[error("standard output: {0}")]
     Output(io::Error),
+    #[error("a request is larger than the buffer of {size} bytes", size = BUFFER)]
     TooLarge,
-    Memory,
+    #[error("not enough memory")]
+    Memory(#[from] AllocError),
 }
 
-// What a write to standard output came to.
+// What a write to standard output came to. A function of its own, since its contract says that no failed write counts as written.
 pub fn written(res: io::Result<()>) -> Result<(), Fault>
     ensures { is_ok result ≡ is_ok res }
 {
-    match res {
-        Ok(()) => Ok(()),
-        Err(reason) => Err(Fault::Output(reason)),
-    }
-}
-
-impl From<AllocError> for Fault {
-    fn from(_e: AllocError) -> Fault {
-        Fault::Memory
-    }
-}
-
-impl fmt::Display for Fault {
-    fn fmt<W: fmt::Write>(&self, f: &mut fmt::Formatter<W>) -> fmt::Result {
-        match self {
-            Fault::Arguments(reason) => write!(f, "the arguments cannot be read: {reason}"),
-            Fault::TooManyArguments => f.write_str("more than one argument; see deckorange --help"),
-            Fault::UnknownOption(word) => write!(f, "unknown option {word}; see deckorange --help"),
-            Fault::Input { name, reason } => write!(f, "{name}: {reason}"),
-            Fault::Output(reason) => write!(f, "standard output: {reason}"),
-            Fault::TooLarge => write!(f, "a request is larger than the buffer of {BUFFER} bytes"),
-            Fault::Memory => f.write_str("not enough memory"),
-        }
-    }
+    res.map_err(Fault::Output)
 }

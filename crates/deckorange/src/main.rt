@@ -27,22 +27,17 @@ fn main(rt: HostRuntime) -> ExitCode {
 
 fn run(rt: &HostRuntime) -> Result<(), Fault> {
     let heap = rt.alloc();
-    let args = match env::args(rt) {
-        Ok(args) => args,
-        Err(reason) => return Err(Fault::Arguments(reason)),
-    };
+    let args = env::args(rt).map_err(Fault::Arguments)?;
     match command::parse(args)? {
         Command::Help => help::print_help(rt),
         Command::AnswerInput => {
             let name = String::from_str(heap, "standard input")?;
             Responder::new(heap, rt.stdout())?.answer_all(name, &mut rt.stdin())
         }
-        Command::AnswerFile(name) => {
-            let mut file = match File::open(rt, name.as_str()) {
-                Ok(file) => file,
-                Err(reason) => return Err(Fault::Input { name, reason }),
-            };
-            Responder::new(heap, rt.stdout())?.answer_all(name, &mut file)
-        }
+        Command::AnswerFile(name) => match File::open(rt, name.as_str()) {
+            Ok(mut file) => Responder::new(heap, rt.stdout())?.answer_all(name, &mut file),
+            // No `map_err`: its closure would take `name`, which the other arm takes.
+            Err(reason) => Err(Fault::Input { name, reason }),
+        },
     }
 }

@@ -1,6 +1,6 @@
 // Where the requests are answered.
 ghost use Rattle.std.specs.Prelude.{◌≡◌, ◌≤◌, [], length, drop, IfOk, vec_len, OnOk};
-ghost use Rattle.input.specs.Unread.{unread};
+ghost use Rattle.answer.specs.declared.TheConstants.{LENT};
 ghost use Rattle.deckorange.specs.Tail.{Tail};
 
 use crate::fault::{Fault, written};
@@ -8,7 +8,7 @@ use answer::{LENT, answer};
 use input::{Filled, Window};
 use request::answers::{Answer, Refusal};
 use request::reading::{Extent, extent_of};
-use std::alloc::Global;
+use std::alloc::{AllocError, Global};
 use std::io;
 use std::io::{BufWriter, ErrorKind, Read, Stdout, Write};
 
@@ -29,20 +29,19 @@ pub struct Responder {
     window: Window,
     lent: Vec<u64>,
     out: BufWriter<Stdout>,
-    // As many as `LENT`.
-    ghost enough: { vec_len lent ≡ 49156 },
+    ghost enough: { vec_len lent ≡ LENT },
 }
 
 impl Responder {
     pub fn new(heap: Global, stdout: Stdout) -> Result<Responder, Fault>
-        ensures { IfOk result (λ d. unread d.window ≡ []) }
+        ensures { IfOk result (λ d. d.window ≡ []) }
     {
         let window = Window::new(heap)?;
         let lent = vec![in heap; 0; LENT]?;
         Ok(Responder {
             window,
             lent,
-            out: BufWriter::new(heap, stdout).map_err(|_| Fault::Memory)?,
+            out: BufWriter::new(heap, stdout).map_err(|_| Fault::Memory(AllocError))?,
         })
     }
 
@@ -61,6 +60,7 @@ impl Responder {
                 Ok(Filled::Enough) => {}
                 Ok(Filled::Ended) => return self.answer_rest(),
                 Ok(Filled::NoRoom) => return Err(Fault::TooLarge),
+                // No `map_err`: its closure would take `name` in each round.
                 Err(reason) => return Err(Fault::Input { name, reason }),
             }
         }
@@ -70,13 +70,12 @@ impl Responder {
 
     // Answers each complete request that is held, up to the first that is not.
     fn answer_held(&mut self) -> Result<Pause, Fault>
-        ensures { OnOk result (Tail (unread self.old.window) (unread self.new.window)) }
+        ensures { OnOk result (Tail self.old.window self.new.window) }
     {
         loop {
             match extent_of(self.window.held()) {
                 Extent::Complete(n) => {
-                    let is_request = self.answer_next(n)?;
-                    if !is_request {
+                    if let Answer::Refused(Refusal::NotARequest, _) = self.answer_next(n)? {
                         return Ok(Pause::Refused);
                     }
                 }
@@ -86,23 +85,23 @@ impl Responder {
         }
     }
 
-    // Answers the request in the first `n` bytes that are held, and lets go of them. Whether it was one is in its rules, too.
-    fn answer_next(&mut self, n: usize) -> Result<bool, Fault>
-        requires { n ≤ length (unread self.old.window) }
-        ensures { OnOk result (unread self.new.window ≡ drop n (unread self.old.window)) }
+    // Answers the request in the first `n` bytes that are held, and lets go of them. It is refused as none where its rules are wrong.
+    fn answer_next(&mut self, n: usize) -> Result<Answer, Fault>
+        requires { n ≤ length self.old.window }
+        ensures { OnOk result (self.new.window ≡ drop n self.old.window) }
     {
-        let is_request = write_answer(
-            &self.window.held()[0..n],
+        let answer = write_answer(
+            &self.window.held()[..n],
             self.lent.as_mut_slice(),
             &mut self.out,
         )?;
         self.window.skip(n);
-        Ok(is_request)
+        Ok(answer)
     }
 
     // Answers all that is held as one request, which it is not: it is cut off or wrong.
     fn answer_rest(&mut self) -> Result<(), Fault> {
-        if self.window.len() > 0 {
+        if !self.window.is_empty() {
             write_answer(self.window.held(), self.lent.as_mut_slice(), &mut self.out)?;
         }
         self.flush()
@@ -115,13 +114,15 @@ impl Responder {
     }
 }
 
-// Writes the line, and says whether the bytes begin with a request.
-fn write_answer(bytes: &[u8], lent: &mut [u64], out: &mut BufWriter<Stdout>) -> Result<bool, Fault>
-    requires { length lent.old ≡ 49156 }
+// Writes the line of the answer to the request that the bytes begin with.
+fn write_answer(
+    bytes: &[u8],
+    lent: &mut [u64],
+    out: &mut BufWriter<Stdout>,
+) -> Result<Answer, Fault>
+    requires { length lent.old ≡ LENT }
 {
-    let Ok(line) = answer(bytes, lent) else {
-        unreachable()
-    };
-    written(writeln!(out, "{line}"))?;
-    Ok(!matches!(line, Answer::Refused(Refusal::NotARequest, _)))
+    let answer = answer(bytes, lent).unwrap();
+    written(writeln!(out, "{answer}"))?;
+    Ok(answer)
 }

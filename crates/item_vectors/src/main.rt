@@ -6,36 +6,16 @@
 
 #![tactic(auto)]
 
-use anyhow::anyhow;
-use checker::{LENT, Verdict, check};
+use anyhow::{Context, anyhow};
+use checker::{LENT, check};
 use items::comparing::{Comparison, compare};
 use items::skipping::item_at;
 use items::text::first_wrong;
 use std::alloc::Global;
-use std::io::{BufRead, BufReader};
 
 fn main(rt: HostRuntime) -> anyhow::Result<()> {
     let heap = rt.alloc();
-    let mut cases = 0u64;
-    let mut differ = 0u64;
-    for line in BufReader::new(heap, rt.stdin())?.lines(heap) {
-        let line = line?;
-        let case = line.split('#').next().unwrap_or("");
-        if case.trim().is_empty() {
-            continue;
-        }
-        let Some((asked, expected)) = case.split_once("=>") else {
-            return Err(anyhow!("a line without =>"));
-        };
-        let told = told(heap, asked)?;
-        cases = cases.saturating_add(1);
-        if told.as_str() != expected.trim() {
-            differ = differ.saturating_add(1);
-            println!(rt; "{case}: {told}")?;
-        }
-    }
-    println!(rt; "{cases} cases, {differ} told otherwise")?;
-    Ok(())
+    tables::go_through(&rt, |asked| told(heap, asked))
 }
 
 fn told(heap: Global, asked: &str) -> anyhow::Result<String> {
@@ -53,12 +33,8 @@ fn told(heap: Global, asked: &str) -> anyhow::Result<String> {
 fn verdict_told(heap: Global, asked: &str) -> anyhow::Result<String> {
     let bytes = hex::decode(heap, asked.trim())?;
     let mut lent = [0u64; LENT];
-    match check(bytes.as_slice(), &mut lent) {
-        Ok(Verdict::Complete) => Ok(format!(in heap; "complete")?),
-        Ok(Verdict::Prefix) => Ok(format!(in heap; "prefix")?),
-        Ok(Verdict::Wrong(place)) => Ok(format!(in heap; "wrong at {place}")?),
-        Err(_) => Err(anyhow!("not checked")),
-    }
+    let verdict = check(bytes.as_slice(), &mut lent)?;
+    Ok(format!(in heap; "{verdict}")?)
 }
 
 // Of bytes that begin with a valid item: how many are the item's.
@@ -73,9 +49,7 @@ fn item_told(heap: Global, asked: &str) -> anyhow::Result<String> {
 // Of a length and bytes: the first byte with which no text of that length goes on.
 fn text_told(heap: Global, asked: &str) -> anyhow::Result<String> {
     let (size, digits) = asked.trim().split_once(' ').unwrap_or((asked.trim(), ""));
-    let Ok(size) = size.parse::<u64>() else {
-        return Err(anyhow!("a text without a length"));
-    };
+    let size = size.parse().ok().context("a text without a length")?;
     let bytes = hex::decode(heap, digits)?;
     match first_wrong(bytes.as_slice(), size) {
         Some(place) => Ok(format!(in heap; "wrong at {place}")?),
@@ -85,9 +59,7 @@ fn text_told(heap: Global, asked: &str) -> anyhow::Result<String> {
 
 // Of two byte strings: which comes first, by which index.
 fn order_told(heap: Global, asked: &str) -> anyhow::Result<String> {
-    let Some((left, right)) = asked.split_once(',') else {
-        return Err(anyhow!("no two byte strings"));
-    };
+    let (left, right) = asked.split_once(',').context("no two byte strings")?;
     let left = hex::decode(heap, left.trim())?;
     let right = hex::decode(heap, right.trim())?;
     match compare(left.as_slice(), right.as_slice()) {

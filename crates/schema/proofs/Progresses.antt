@@ -7,9 +7,9 @@ use Rattle.cbor.specs.Prefix.{Any as AnyOf, Stops}
 use Rattle.cbor.specs.Reading.{Stopped}
 use Rattle.sequence.specs.Token.{Token, num, spell, number, TokenOf}
 use Rattle.sequence.specs.Grammar.{Takes, Completes}
-use Rattle.sequence.specs.declared.reading.Parsed.{Parsed}
 use Rattle.sequence.specs.Reading.{TokenAt, SpelledAt, PendingStops}
 use Rattle.sequence.proofs.Grammars.{takes_append, completes_free, spelled_one, spelled_append, stop_after, one_begins}
+use Rattle.sequence.specs.declared.reading.Parsed.{Parsed}
 use Rattle.schema.specs.declared.nodes.Schema.TheVariants.{Any, Unsigned, Negative, ByteLength, TextLength, Literal, Choice, Array, Map, Tag, Rule}
 use Rattle.schema.specs.declared.nodes.Group.TheVariants.{Empty, One, Sequence, FirstOf, Repeat}
 use Rattle.schema.specs.declared.nodes.Field.TheVariants.{Required, Optional, Others}

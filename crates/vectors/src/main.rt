@@ -5,93 +5,51 @@
 
 #![tactic(auto)]
 
-mod hex;
-
 use answer::{LENT, answer};
-use anyhow::anyhow;
+use anyhow::{Context, anyhow};
 use schema::nodes::Node;
 use schema::reading::{NoRules, STACK, read_rules};
-use schema::table::{field_at, group_at, schema_at};
+use schema::table::node_at;
 use schema::writing::write_node;
 use sequence::reading::read_number;
 use std::alloc::Global;
-use std::io::{BufRead, BufReader};
 
 fn main(rt: HostRuntime) -> anyhow::Result<()> {
-    run(&rt)
-}
-
-fn run(rt: &HostRuntime) -> anyhow::Result<()> {
     let heap = rt.alloc();
     let mut lent = vec![in heap; 0u64; LENT]?;
-    let mut cases = 0u64;
-    let mut differ = 0u64;
-    for line in BufReader::new(heap, rt.stdin())?.lines(heap) {
-        let line = line?;
-        let case = without_comment(line.as_str());
-        let Some((asked, expected)) = case.split_once("=>") else {
-            if case.trim().is_empty() {
-                continue;
-            }
-            return Err(anyhow!("a line without =>"));
-        };
-        let told = told(heap, asked, lent.as_mut_slice())?;
-        cases = cases.saturating_add(1);
-        if told.as_str() != expected.trim() {
-            differ = differ.saturating_add(1);
-            println!(rt; "{case}: {told}")?;
-        }
-    }
-    println!(rt; "{cases} cases, {differ} told otherwise")?;
-    Ok(())
-}
-
-fn without_comment(line: &str) -> &str {
-    match line.split_once('#') {
-        Some((case, _)) => case,
-        None => line,
-    }
+    tables::go_through(&rt, |asked| told(heap, asked, lent.as_mut_slice()))
 }
 
 fn told(heap: Global, asked: &str, lent: &mut [u64]) -> anyhow::Result<String> {
     match asked.trim().strip_prefix("rules") {
-        Some(rules) => rules_told(heap, hex::parse(heap, rules)?.as_slice(), lent),
-        None => answer_told(heap, hex::parse(heap, asked)?.as_slice(), lent),
+        Some(rules) => rules_told(heap, bytes_of(heap, rules)?.as_slice(), lent),
+        None => answer_told(heap, bytes_of(heap, asked)?.as_slice(), lent),
     }
+}
+
+// The bytes in hex digits, between which spaces may stand.
+fn bytes_of(heap: Global, digits: &str) -> anyhow::Result<Vec<u8>> {
+    let digits = digits.replace(heap, ' ', "")?;
+    Ok(hex::decode(heap, digits)?)
 }
 
 fn answer_told(heap: Global, bytes: &[u8], lent: &mut [u64]) -> anyhow::Result<String> {
-    match answer(bytes, lent) {
-        Ok(answer) => Ok(format!(in heap; "{answer}")?),
-        Err(_) => Err(anyhow!("too little is lent")),
-    }
+    let answer = answer(bytes, lent)?;
+    Ok(format!(in heap; "{answer}")?)
 }
 
 fn rules_told(heap: Global, bytes: &[u8], lent: &mut [u64]) -> anyhow::Result<String> {
-    if lent.len() < STACK {
-        return Err(anyhow!("too little is lent"));
-    }
-    let (stack, table) = lent.split_at_mut(STACK);
+    let (stack, table) = lent
+        .split_at_mut_checked(STACK)
+        .context("too little is lent")?;
     match read_rules(bytes, stack, table) {
         Ok(rules) if writes_back(heap, bytes, table, rules.nodes)? => {
             Ok(format!(in heap; "{} parts", rules.parts)?)
         }
         Ok(_) => Err(anyhow!("rules that are not written back")),
-        Err(NoRules::Wrong(place)) => Ok(format!(in heap; "wrong at {place}")?),
-        Err(NoRules::TooLarge) => Ok(format!(in heap; "too large")?),
-        Err(NoRules::TooLittleLent) => Err(anyhow!("too little is lent")),
+        Err(reason @ NoRules::TooLittleLent) => Err(reason.into()),
+        Err(reason) => Ok(format!(in heap; "{reason}")?),
     }
-}
-
-fn node_at<'a>(bytes: &'a [u8], table: &[u64], index: usize) -> Option<Node<'a>> {
-    if let Some(schema) = schema_at(bytes, table, index) {
-        return Some(Node::OfSchema(schema));
-    }
-    if let Some(group) = group_at(bytes, table, index) {
-        return Some(Node::OfGroup(group));
-    }
-    let field = field_at(bytes, table, index)?;
-    Some(Node::OfField(field))
 }
 
 // Whether the nodes of the table, written one after another, are the bytes that follow the number of rules.
@@ -100,15 +58,9 @@ fn writes_back(heap: Global, bytes: &[u8], table: &[u64], nodes: usize) -> anyho
         return Ok(false);
     };
     let mut out = vec![in heap; 0u8; bytes.len()]?;
-    let mut at = count.next;
-    for index in 0..nodes {
-        let Some(node) = node_at(bytes, table, index) else {
-            return Ok(false);
-        };
-        let Some(next) = write_node(out.as_mut_slice(), at, node) else {
-            return Ok(false);
-        };
-        at = next;
-    }
-    Ok(at == bytes.len() && out.as_slice().get(count.next..) == bytes.get(count.next..))
+    let end = (0..nodes).try_fold(count.next, |at, index| {
+        let node: Node<'_> = node_at(bytes, table, index)?;
+        write_node(out.as_mut_slice(), at, node)
+    });
+    Ok(end == Some(bytes.len()) && out.as_slice().get(count.next..) == bytes.get(count.next..))
 }

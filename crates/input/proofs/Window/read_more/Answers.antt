@@ -1,22 +1,31 @@
-use Rattle.std.proofs.Common.{length, ap, arith, rules}
+use Rattle.std.proofs.Common.{◌≡◌, ◌≤◌, ◌∙◌, ap, arith, length, drop}
 use Rattle.input.specs.Unread.{unread}
-use Rattle.input.proofs.Cuts.{grown, kept, same_grown, unread_length}
+use Rattle.input.proofs.Cuts.{grown, moved, same_grown}
 use Rattle.input.proofs.Window.read_more.Goals as goal
+use Rattle.input.proofs.Window.read_more.Goals.{then-self-gt0, else-self-gt0}
 
-pub returns : goal.returns
-unfolding unread
-returns g c =
-    let w = c.make_room.new.self in
-    record {
-      grown =
-          grown w.start w.end c.in_ok-n.n w.bytes.items c.read_behind.new.bytes.items _ c.read_behind.ensures.front c.make_room.ensures.same (omega arith) (omega arith);
-      len = simp unread_length (omega (arith, simp unread_length at (ap length c.make_room.ensures.same)));
-    }
+pub returns-clause-grown : goal.returns-clause-grown
+returns-clause-grown g c =
+    let f = c.if-self-gt0.self-inside in
+    let front : (unread f ≡ c.args.self.now) × (f.start ≤ f.end) × (f.end ≤ length f.bytes.items) =
+    elim c.if-self-gt0.branch [
+      | then-self-gt0 w ↦
+          let m = moved c.self.inside.start c.self.inside.end c.self.inside.bytes.items (omega arith) (omega arith) in
+          rw w.self-inside-is (rw w.copy_within.ensures.items (m ∙ c.self.view_is), omega arith, omega (arith, w.copy_within.ensures.len))
+      | else-self-gt0 w ↦ rw w.self-inside-is (c.self.view_is, omega arith, omega arith)
+    ] in
+    let same = c.read_behind.ensures.front ∙ c.make_room.ensures.front in
+    rw (← front.0) (grown f.start f.end c.in_ok-n.n f.bytes.items c.read_behind.new.bytes.items front.1 front.2 same)
 
-pub returns-in_err-n : goal.returns-in_err-n
-unfolding unread
-returns-in_err-n g c =
-    let w = c.make_room.new.self in
-    let same = kept w.start w.end w.bytes.items c.read_behind.new.bytes.items _ c.read_behind.ensures.front c.make_room.ensures.same in
-    let long = ap length same in
-    record { grown = same_grown _ _ same; len = search rules }
+pub returns-in_err-n-clause-grown : goal.returns-in_err-n-clause-grown
+returns-in_err-n-clause-grown g c =
+    let f = c.if-self-gt0.self-inside in
+    let front : unread f ≡ c.args.self.now =
+    elim c.if-self-gt0.branch [
+      | then-self-gt0 w ↦
+          let m = moved c.self.inside.start c.self.inside.end c.self.inside.bytes.items (omega arith) (omega arith) in
+          rw (w.self-inside-is, w.copy_within.ensures.items) (m ∙ c.self.view_is)
+      | else-self-gt0 w ↦ rw w.self-inside-is c.self.view_is
+    ] in
+    let same = c.read_behind.ensures.front ∙ c.make_room.ensures.front in
+    same_grown _ _ (ap (drop f.start) same ∙ front)

@@ -1,10 +1,9 @@
 use Rattle.std.proofs.Common.{length}
-use Rattle.input.specs.Unread.{unread}
 use Rattle.deckorange.specs.Tail.{Tail}
 use Rattle.deckorange.proofs.responder.Responder.answer_held.Given as goal
 
 abbrev pub invariant-loop-n : goal.invariant-loop-n
-invariant-loop-n l = Tail (unread l.initial.self.window) (unread l.self.window)
+invariant-loop-n l = Tail l.initial.self.window l.self.window
 
 abbrev pub decreases-loop-n : goal.decreases-loop-n
-decreases-loop-n l = length (unread l.self.window)
+decreases-loop-n l = length l.self.window
