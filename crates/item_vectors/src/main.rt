@@ -7,7 +7,7 @@
 #![tactic(auto)]
 
 use anyhow::{Context, anyhow};
-use checker::{LENT, Verdict, check};
+use checker::{LENT, check};
 use items::comparing::{Comparison, compare};
 use items::skipping::item_at;
 use items::text::first_wrong;
@@ -33,11 +33,8 @@ fn told(heap: Global, asked: &str) -> anyhow::Result<String> {
 fn verdict_told(heap: Global, asked: &str) -> anyhow::Result<String> {
     let bytes = hex::decode(heap, asked.trim())?;
     let mut lent = [0u64; LENT];
-    match check(bytes.as_slice(), &mut lent).map_err(|_| anyhow!("not checked"))? {
-        Verdict::Complete => Ok(format!(in heap; "complete")?),
-        Verdict::Prefix => Ok(format!(in heap; "prefix")?),
-        Verdict::Wrong(place) => Ok(format!(in heap; "wrong at {place}")?),
-    }
+    let verdict = check(bytes.as_slice(), &mut lent)?;
+    Ok(format!(in heap; "{verdict}")?)
 }
 
 // Of bytes that begin with a valid item: how many are the item's.

@@ -9,7 +9,7 @@ use answer::{LENT, answer};
 use anyhow::{Context, anyhow};
 use schema::nodes::Node;
 use schema::reading::{NoRules, STACK, read_rules};
-use schema::table::{field_at, group_at, schema_at};
+use schema::table::node_at;
 use schema::writing::write_node;
 use sequence::reading::read_number;
 use std::alloc::Global;
@@ -34,7 +34,7 @@ fn bytes_of(heap: Global, digits: &str) -> anyhow::Result<Vec<u8>> {
 }
 
 fn answer_told(heap: Global, bytes: &[u8], lent: &mut [u64]) -> anyhow::Result<String> {
-    let answer = answer(bytes, lent).map_err(|_| anyhow!("too little is lent"))?;
+    let answer = answer(bytes, lent)?;
     Ok(format!(in heap; "{answer}")?)
 }
 
@@ -47,20 +47,9 @@ fn rules_told(heap: Global, bytes: &[u8], lent: &mut [u64]) -> anyhow::Result<St
             Ok(format!(in heap; "{} parts", rules.parts)?)
         }
         Ok(_) => Err(anyhow!("rules that are not written back")),
-        Err(NoRules::Wrong(place)) => Ok(format!(in heap; "wrong at {place}")?),
-        Err(NoRules::TooLarge) => Ok(format!(in heap; "too large")?),
-        Err(NoRules::TooLittleLent) => Err(anyhow!("too little is lent")),
+        Err(NoRules::TooLittleLent) => Err(NoRules::TooLittleLent.into()),
+        Err(reason) => Ok(format!(in heap; "{reason}")?),
     }
-}
-
-fn node_at<'a>(bytes: &'a [u8], table: &[u64], index: usize) -> Option<Node<'a>> {
-    if let Some(schema) = schema_at(bytes, table, index) {
-        return Some(Node::OfSchema(schema));
-    }
-    if let Some(group) = group_at(bytes, table, index) {
-        return Some(Node::OfGroup(group));
-    }
-    field_at(bytes, table, index).map(Node::OfField)
 }
 
 // Whether the nodes of the table, written one after another, are the bytes that follow the number of rules.
@@ -70,7 +59,7 @@ fn writes_back(heap: Global, bytes: &[u8], table: &[u64], nodes: usize) -> anyho
     };
     let mut out = vec![in heap; 0u8; bytes.len()]?;
     let end = (0..nodes).try_fold(count.next, |at, index| {
-        let node = node_at(bytes, table, index)?;
+        let node: Node<'_> = node_at(bytes, table, index)?;
         write_node(out.as_mut_slice(), at, node)
     });
     Ok(end == Some(bytes.len()) && out.as_slice().get(count.next..) == bytes.get(count.next..))
