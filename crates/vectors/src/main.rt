@@ -47,7 +47,7 @@ fn rules_told(heap: Global, bytes: &[u8], lent: &mut [u64]) -> anyhow::Result<St
             Ok(format!(in heap; "{} parts", rules.parts)?)
         }
         Ok(_) => Err(anyhow!("rules that are not written back")),
-        Err(NoRules::TooLittleLent) => Err(NoRules::TooLittleLent.into()),
+        Err(reason @ NoRules::TooLittleLent) => Err(reason.into()),
         Err(reason) => Ok(format!(in heap; "{reason}")?),
     }
 }
