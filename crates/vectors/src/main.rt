@@ -6,7 +6,7 @@
 #![tactic(auto)]
 
 use answer::{LENT, answer};
-use anyhow::{Context, anyhow};
+use anyhow::{Context, anyhow, ensure};
 use schema::nodes::Node;
 use schema::reading::{NoRules, STACK, read_rules};
 use schema::table::node_at;
@@ -27,9 +27,16 @@ fn told(heap: Global, asked: &str, lent: &mut [u64]) -> anyhow::Result<String> {
     }
 }
 
-// The bytes in hex digits, between which spaces may stand.
+// The bytes in hex digits, between which spaces may stand. The library also takes capital letters, of which a table has none.
 fn bytes_of(heap: Global, digits: &str) -> anyhow::Result<Vec<u8>> {
     let digits = digits.replace(heap, ' ', "")?;
+    ensure!(
+        digits
+            .bytes()
+            .all(|b| matches!(b, b'0'..=b'9' | b'a'..=b'f')),
+        "not a hex digit"
+    );
+    ensure!(digits.len() % 2 == 0, "half a byte");
     Ok(hex::decode(heap, digits)?)
 }
 
