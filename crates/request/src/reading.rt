@@ -1,4 +1,5 @@
 // Requests read from lent bytes as parts of them, with the place where there is none.
+ghost use Rattle.std.specs.Prelude.{◌≡◌, ℕ, ◌≤◌};
 ghost use Rattle.request.specs.Grammar.{after_request};
 ghost use Rattle.request.specs.Reading.{step_number, kind_number, KindAt, StepAt, CountedPathAt, RestAt, RequestAt, ReadsBack, Reaches, RulesIn};
 
@@ -53,32 +54,44 @@ pub enum Extent {
     Wrong(usize),
 }
 
-fn read_step_kind(bytes: &[u8], at: usize) -> Result<Parsed<StepKind>, Stop>
-    ensures { KindAt step_number bytes.now at result }
-{
-    let number = read_opcode(bytes, at, 2)?;
-    let value = match number.argument {
-        0 => StepKind::Index,
-        1 => StepKind::Key,
-        _ => StepKind::Content,
-    };
-    Ok(Parsed {
-        value,
-        next: number.next,
-    })
+// The three kinds of something, each by its number.
+trait Numbered: Sized {
+    ghost number_of: { Self → ℕ };
+
+    fn of_number(number: u64) -> Self
+        ensures { number ≤ 2 → number_of result ≡ number };
 }
 
-fn read_kind(bytes: &[u8], at: usize) -> Result<Parsed<Kind>, Stop>
-    ensures { KindAt kind_number bytes.now at result }
+impl Numbered for StepKind {
+    ghost number_of = { step_number };
+
+    fn of_number(number: u64) -> StepKind {
+        match number {
+            0 => StepKind::Index,
+            1 => StepKind::Key,
+            _ => StepKind::Content,
+        }
+    }
+}
+
+impl Numbered for Kind {
+    ghost number_of = { kind_number };
+
+    fn of_number(number: u64) -> Kind {
+        match number {
+            0 => Kind::Check,
+            1 => Kind::Find,
+            _ => Kind::Fit,
+        }
+    }
+}
+
+fn read_kind<K: Numbered>(bytes: &[u8], at: usize) -> Result<Parsed<K>, Stop>
+    ensures { KindAt K.number_of bytes.now at result }
 {
     let number = read_opcode(bytes, at, 2)?;
-    let value = match number.argument {
-        0 => Kind::Check,
-        1 => Kind::Find,
-        _ => Kind::Fit,
-    };
     Ok(Parsed {
-        value,
+        value: K::of_number(number.argument),
         next: number.next,
     })
 }
@@ -87,7 +100,7 @@ fn read_kind(bytes: &[u8], at: usize) -> Result<Parsed<Kind>, Stop>
 pub fn read_step(bytes: &[u8], at: usize) -> Result<Parsed<Step<'_>>, Stop>
     ensures { StepAt bytes.now at result }
 {
-    let kind = read_step_kind(bytes, at)?;
+    let kind = read_kind::<StepKind>(bytes, at)?;
     match kind.value {
         StepKind::Index => {
             let index = read_number(bytes, kind.next)?;
@@ -155,7 +168,7 @@ pub fn read_request(bytes: &[u8]) -> Result<Parsed<Request<'_>>, Stop>
     ensures right { RequestAt bytes.now result }
     ensures back { ReadsBack bytes.now result }
 {
-    let kind = read_kind(bytes, 0)?;
+    let kind = read_kind::<Kind>(bytes, 0)?;
     match kind.value {
         Kind::Check => read_check(bytes, kind.next),
         Kind::Find => read_find(bytes, kind.next),
@@ -177,7 +190,7 @@ pub fn extent_of(bytes: &[u8]) -> Extent
 pub fn rules_in(bytes: &[u8]) -> Option<&[u8]>
     ensures { RulesIn bytes.now result }
 {
-    let kind = read_kind(bytes, 0).ok()?;
+    let kind = read_kind::<Kind>(bytes, 0).ok()?;
     match kind.value {
         Kind::Fit => Some(read_string(bytes, kind.next).ok()?.value),
         Kind::Check | Kind::Find => None,
