@@ -7,7 +7,7 @@ use Rattle.cbor.specs.Reading.{Stopped}
 use Rattle.cbor.proofs.Places.{part_length}
 use Rattle.std.proofs.lemmas.List.{take_at}
 use Rattle.sequence.specs.Token.{Token, num, str, spell, opcode, number, string, TokenOf}
-use Rattle.sequence.specs.Grammar.{next, Completes}
+use Rattle.sequence.specs.Grammar.{next, Completes, many}
 use Rattle.sequence.specs.Reading.{TokenAt, SpelledAt, PendingStops}
 use Rattle.sequence.proofs.Grammars.{spelled_one, spelled_append, spelled_two, stop_first, stop_later, stop_after, none_stands, same_token}
 use Rattle.request.specs.declared.reading.Path.{Path}
@@ -17,7 +17,7 @@ use Rattle.request.specs.declared.reading.Kind.{Kind}
 use Rattle.request.specs.declared.reading.Kind.TheVariants.{Check as KindCheck, Find as KindFind}
 use Rattle.sequence.specs.declared.reading.Parsed.{Parsed}
 use Rattle.request.specs.Asked.{Step, Asked, check, find, fit, step_tokens, path_tokens, write, WritableStep, WritablePath}
-use Rattle.request.specs.Grammar.{Sort, a_request, a_path, a_step, a_string, many, shape, after_request, after_step, requests}
+use Rattle.request.specs.Grammar.{Sort, a_request, a_path, a_step, a_string, shape, after_request, after_step, requests}
 use Rattle.request.specs.Reading.{kind_number, Means, StepAt, PathAt, CountedPathAt, RestAt, RequestAt, ReadsBack, RulesThere}
 use Rattle.request.proofs.Requests.{completable, step_takes, path_takes, stops_request, one_way}
 

@@ -4,10 +4,10 @@ use Rattle.cbor.specs.Encoding.{all_bytes}
 use Rattle.cbor.specs.Prefix.{Any, Stops}
 use Rattle.cbor.proofs.Words.{free_two, stops_same}
 use Rattle.sequence.specs.Token.{Token, num, str, spell, Word, ByteString}
-use Rattle.sequence.specs.Grammar.{Takes, Completes, Completable}
+use Rattle.sequence.specs.Grammar.{Takes, Completes, Completable, many}
 use Rattle.sequence.proofs.Grammars.{takes_append, completes_free, spell_bytes}
 use Rattle.request.specs.Asked.{Step, index, key, content, Asked, check, find, fit, step_tokens, path_tokens, tokens, write, WritableStep, WritablePath, Writable, IsRequest}
-use Rattle.request.specs.Grammar.{Sort, a_request, a_path, a_step, a_number, a_string, many, requests}
+use Rattle.request.specs.Grammar.{Sort, a_request, a_path, a_step, a_number, a_string, requests}
 
 -- every sort can be completed
 pub completable : Completable requests

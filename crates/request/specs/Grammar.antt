@@ -1,7 +1,7 @@
 -- The grammar of requests.
 use Rattle.std.specs.Prelude.{ℕ, zero, suc, List, [], ◌∷◌}
 use Rattle.sequence.specs.Token.{Shape, opcode, number, string}
-use Rattle.sequence.specs.Grammar.{Grammar}
+use Rattle.sequence.specs.Grammar.{Grammar, many}
 
 pub data Sort : Type 0 where
   a_request : Sort
@@ -16,10 +16,6 @@ shape a_path = number
 shape a_step = opcode 2
 shape a_number = number
 shape a_string = string
-
-unfoldable pub many : ℕ → Sort → List Sort
-many zero s = []
-many (suc n) s = s ∷ many n s
 
 abbrev pub after_request : ℕ → List Sort
 after_request zero = a_string ∷ []

@@ -19,7 +19,8 @@ use Rattle.request.specs.declared.reading.Kind.TheVariants.{Check as KindCheck, 
 use Rattle.request.specs.declared.reading.Extent.{Extent}
 use Rattle.request.specs.declared.reading.Extent.TheVariants.{Complete, Incomplete, Wrong}
 use Rattle.request.specs.Asked.{Step, index, key, content, Asked, check, find, fit, step_tokens, path_tokens, tokens, write, WritableStep, WritablePath, Writable, IsRequest}
-use Rattle.request.specs.Grammar.{Sort, a_path, a_step, many, requests}
+use Rattle.sequence.specs.Grammar.{many}
+use Rattle.request.specs.Grammar.{Sort, a_path, a_step, requests}
 
 -- the kinds of steps and of requests, by their numbers
 abbrev pub step_number : StepKind → ℕ

@@ -1,7 +1,7 @@
 -- The parts of rules are those that their tokens complete.
 use Rattle.std.proofs.Common.{◌≡◌, ℕ, ◌+◌, List, [], ◌∷◌, ◌++◌, length, refl, ap, ◌∙◌, inl, inr, arith}
 use Rattle.sequence.specs.Token.{Token, num, str}
-use Rattle.sequence.specs.Grammar.{next, Takes}
+use Rattle.sequence.specs.Grammar.{next, Takes, many}
 use Rattle.schema.specs.declared.nodes.Schema.{Schema as NodeSchema}
 use Rattle.schema.specs.declared.nodes.Schema.TheVariants.{Any, Unsigned, Negative, ByteLength, TextLength, Literal, Choice, Array, Map, Tag, Rule}
 use Rattle.schema.specs.declared.nodes.Group.{Group as NodeGroup}
@@ -14,7 +14,7 @@ use Rattle.schema.specs.declared.nodes.Sort.{Sort as NodeSort}
 use Rattle.schema.specs.declared.nodes.Sort.TheVariants.{ARule, ASchema, AGroup, AField}
 use Rattle.schema.specs.Nodes.{schema_own, group_own, field_own, own_tokens, sort_of, string_in, rule_part}
 use Rattle.schema.specs.Reading.{OfSort}
-use Rattle.schema.specs.Grammar.{Sort, the_rules, a_rule, a_schema, a_group, a_field, many, grammar, weight, parts_in}
+use Rattle.schema.specs.Grammar.{Sort, the_rules, a_rule, a_schema, a_group, a_field, grammar, weight, parts_in}
 use Rattle.schema.specs.Rules.{Schema, any, unsigned, negative, byte_length, text_length, literal, choice, array, map, tag, rule, Group, empty, one, sequence, first_of, repeat, Field, required, optional, others, Fields, no_field, more_fields, how_many, schema_tokens, group_tokens, field_tokens, fields_tokens, schemas_tokens, tokens, schema_parts, group_parts, field_parts, fields_parts, parts}
 
 -- along tokens that take what is pending on

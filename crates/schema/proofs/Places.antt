@@ -7,7 +7,7 @@ use Rattle.cbor.specs.Reading.{Stopped}
 use Rattle.cbor.proofs.Words.{stops_same}
 use Rattle.cbor.proofs.Places.{part_length}
 use Rattle.sequence.specs.Token.{Token, num, str, spell, Shape, number, string, Suits, Word, TokenOf}
-use Rattle.sequence.specs.Grammar.{next, Takes, Completes}
+use Rattle.sequence.specs.Grammar.{next, Takes, Completes, many}
 use Rattle.sequence.specs.declared.reading.Parsed.{Parsed}
 use Rattle.sequence.specs.Reading.{TokenAt, SpelledAt}
 use Rattle.sequence.proofs.Grammars.{spelled_one, spelled_append, stop_first, stop_later, none_stands, same_token}
@@ -17,7 +17,7 @@ use Rattle.schema.specs.declared.nodes.Group.TheVariants.{Repeat}
 use Rattle.schema.specs.declared.nodes.Field.{Field}
 use Rattle.schema.specs.declared.nodes.Node.{Node}
 use Rattle.schema.specs.declared.nodes.Node.TheVariants.{OfSchema, OfGroup, OfField}
-use Rattle.schema.specs.Grammar.{Sort, a_rule, a_schema, a_group, a_field, a_bound, a_last, a_literal, shape, many, after, after_schema, after_field, grammar}
+use Rattle.schema.specs.Grammar.{Sort, a_rule, a_schema, a_group, a_field, a_bound, a_last, a_literal, shape, after, after_schema, after_field, grammar}
 use Rattle.schema.specs.Nodes.{schema_own, inner_of_schema, field_own, inner_of_field, own_tokens, inside}
 use Rattle.schema.specs.Reading.{RangeAt, RangedAt, NumberedAt, KeyedAt, OfSort, Opens, Whole, Stuck, Ceases, RestAt, NodeAt}
 use Rattle.schema.proofs.Trees.{completable, as_rule, as_schema}

@@ -6,7 +6,7 @@ use Rattle.cbor.specs.declared.reading.Stop.{Stop}
 use Rattle.cbor.specs.Prefix.{Any as AnyOf, Stops}
 use Rattle.cbor.specs.Reading.{Stopped}
 use Rattle.sequence.specs.Token.{Token, num, spell, number, TokenOf}
-use Rattle.sequence.specs.Grammar.{Takes, Completes}
+use Rattle.sequence.specs.Grammar.{Takes, Completes, many}
 use Rattle.sequence.specs.Reading.{TokenAt, SpelledAt, PendingStops}
 use Rattle.sequence.proofs.Grammars.{takes_append, completes_free, spelled_one, spelled_append, stop_after, one_begins}
 use Rattle.sequence.specs.declared.reading.Parsed.{Parsed}
@@ -18,7 +18,7 @@ use Rattle.schema.specs.declared.nodes.Node.TheVariants.{OfSchema, OfGroup, OfFi
 use Rattle.schema.specs.declared.nodes.Run.{Run}
 use Rattle.schema.specs.declared.nodes.Sort.{Sort as NodeSort}
 use Rattle.schema.specs.Rules.{Schema, tokens, write, Writable, AreRules, parts}
-use Rattle.schema.specs.Grammar.{Sort, the_rules, a_rule, many, grammar, parts_in}
+use Rattle.schema.specs.Grammar.{Sort, the_rules, a_rule, grammar, parts_in}
 use Rattle.schema.specs.Nodes.{own_tokens, sort_of, inner_of_node, inside, run_of, string_in, rule_part}
 use Rattle.schema.specs.Reading.{Opens, Whole, Stuck, NodeAt}
 use Rattle.schema.specs.Stacks.{number_sort, pending}

@@ -3,8 +3,8 @@ use Rattle.std.proofs.Common.{◌≡◌, ℕ, zero, suc, ◌≤◌, List, [], �
 use Rattle.cbor.specs.Encoding.{all_bytes}
 use Rattle.cbor.specs.Prefix.{Any}
 use Rattle.sequence.specs.Token.{Token, num, str, spell, Word, ByteString, Suits}
-use Rattle.sequence.specs.Grammar.{next, Takes, Completes, Completable}
-use Rattle.schema.specs.Grammar.{Sort, the_rules, a_rule, a_schema, a_group, the_fields, a_field, a_bound, a_last, a_literal, shape, many, grammar}
+use Rattle.sequence.specs.Grammar.{next, Takes, Completes, Completable, many}
+use Rattle.schema.specs.Grammar.{Sort, the_rules, a_rule, a_schema, a_group, the_fields, a_field, a_bound, a_last, a_literal, shape, grammar}
 use Rattle.schema.specs.Rules.{Schema, any, unsigned, negative, byte_length, text_length, literal, choice, array, map, tag, rule, Group, empty, one, sequence, first_of, repeat, Field, required, optional, others, Fields, no_field, more_fields, how_many, schema_tokens, group_tokens, field_tokens, fields_tokens, schemas_tokens, tokens, WritableSchema, WritableGroup, WritableField, WritableFields, WritableSchemas, Writable, AreRules}
 
 -- every sort can be completed

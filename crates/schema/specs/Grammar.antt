@@ -1,7 +1,7 @@
 -- The grammar of rules, and how many parts stand in tokens.
 use Rattle.std.specs.Prelude.{ℕ, zero, suc, ◌+◌, List, [], ◌∷◌, ◌++◌, length}
 use Rattle.sequence.specs.Token.{Token, num, str, Shape, opcode, number, string}
-use Rattle.sequence.specs.Grammar.{Grammar, next}
+use Rattle.sequence.specs.Grammar.{Grammar, next, many}
 
 -- a bound is followed by another number of its part; a last is the last of them
 pub data Sort : Type 0 where
@@ -25,10 +25,6 @@ shape a_field = opcode 2
 shape a_bound = number
 shape a_last = number
 shape a_literal = string
-
-unfoldable pub many : ℕ → Sort → List Sort
-many zero s = []
-many (suc n) s = s ∷ many n s
 
 abbrev pub after_schema : ℕ → List Sort
 after_schema zero = []

@@ -12,7 +12,8 @@ use Rattle.schema.specs.declared.nodes.Node.TheVariants.{OfSchema, OfGroup, OfFi
 use Rattle.schema.specs.declared.nodes.Sort.{Sort as NodeSort}
 use Rattle.schema.specs.declared.nodes.Sort.TheVariants.{ARule, ASchema, AGroup, AField}
 use Rattle.schema.specs.declared.nodes.Run.{Run}
-use Rattle.schema.specs.Grammar.{Sort, a_rule, a_schema, a_group, a_field, many}
+use Rattle.sequence.specs.Grammar.{many}
+use Rattle.schema.specs.Grammar.{Sort, a_rule, a_schema, a_group, a_field}
 
 abbrev pub schema_own : Schema → List Token
 schema_own Any = num 0 ∷ []

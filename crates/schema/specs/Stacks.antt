@@ -1,7 +1,8 @@
 -- The stack of what is pending: two numbers for each run, a sort and how many of it, the top one last.
 use Rattle.std.specs.Prelude.{◌≡◌, ℕ, zero, suc, ◌+◌, ◌*◌, List, [], ◌∷◌, ◌++◌, Some, None, Option, slice_index}
 use Rattle.schema.specs.declared.nodes.Sort.{Sort as NodeSort}
-use Rattle.schema.specs.Grammar.{Sort, a_rule, a_schema, a_group, a_field, many}
+use Rattle.sequence.specs.Grammar.{many}
+use Rattle.schema.specs.Grammar.{Sort, a_rule, a_schema, a_group, a_field}
 use Rattle.schema.specs.Nodes.{sort_of}
 
 abbrev pub number_sort : ℕ → Sort

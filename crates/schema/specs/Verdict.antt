@@ -2,7 +2,7 @@
 use Rattle.std.specs.Prelude.{◌≡◌, ℕ, suc, ◌<◌, ◌≤◌, ◌⊎◌, List, [], ◌∷◌, ◌++◌, length, take, Ok, Err, Result, codes, decimal}
 use Rattle.cbor.specs.Prefix.{Begins, Any}
 use Rattle.sequence.specs.Token.{Token, num}
-use Rattle.sequence.specs.Grammar.{Takes}
+use Rattle.sequence.specs.Grammar.{Takes, many}
 use Rattle.sequence.specs.Reading.{SpelledAt}
 use Rattle.schema.specs.declared.nodes.Run.{Run}
 use Rattle.schema.specs.declared.reader.Reader.{Reader}
@@ -10,7 +10,7 @@ use Rattle.schema.specs.declared.reading.NoRules.{NoRules}
 use Rattle.schema.specs.declared.reading.NoRules.TheVariants.{TooLittleLent, TooLarge, Wrong}
 use Rattle.schema.specs.declared.reading.Rules.{Rules}
 use Rattle.schema.specs.Rules.{Schema, tokens, AreRules, Writable, write, parts}
-use Rattle.schema.specs.Grammar.{Sort, the_rules, many, grammar, parts_in}
+use Rattle.schema.specs.Grammar.{Sort, the_rules, grammar, parts_in}
 use Rattle.schema.specs.Nodes.{sort_of}
 use Rattle.schema.specs.Reading.{Whole}
 use Rattle.schema.specs.Table.{rows}

@@ -41,7 +41,7 @@ pub(crate) struct Stack<'a> {
 }
 
 impl Stack<'_> {
-    ghost use Rattle.schema.specs.Grammar.{many};
+    ghost use Rattle.sequence.specs.Grammar.{many};
     ghost use Rattle.schema.specs.Nodes.{sort_of};
     ghost use Rattle.schema.specs.Stacks.{pending, Pops};
 

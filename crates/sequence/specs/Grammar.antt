@@ -1,10 +1,15 @@
 -- A grammar over tokens: a list of pending sorts, of which the first says which token may come, and the token what is pending in its place.
-use Rattle.std.specs.Prelude.{◌≡◌, ℕ, List, [], ◌∷◌, ◌++◌}
+use Rattle.std.specs.Prelude.{◌≡◌, ℕ, zero, suc, List, [], ◌∷◌, ◌++◌}
 use Rattle.sequence.specs.Token.{Token, num, str, spell, Shape, Suits}
 
 pub record Grammar (S : Type 0) : Type 0 where
   pub shape : S → Shape
   pub after : S → ℕ → List S
+
+-- so many of a sort
+unfoldable pub many : {S : Type 0} → ℕ → S → List S
+many zero s = []
+many (suc n) s = s ∷ many n s
 
 abbrev pub next : {S : Type 0} → Grammar S → S → Token → List S
 next G s (num n) = G.after s n

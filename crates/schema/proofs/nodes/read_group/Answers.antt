@@ -1,5 +1,5 @@
 use Rattle.std.proofs.Common.{refl, arith}
-use Rattle.schema.specs.Grammar.{many}
+use Rattle.sequence.specs.Grammar.{many}
 use Rattle.schema.proofs.Places.{node_stops, node_after, node_bare}
 use Rattle.schema.proofs.nodes.read_group.Goals as goal
 

@@ -1,5 +1,6 @@
 use Rattle.std.proofs.Common.{refl, inl, arith}
-use Rattle.schema.specs.Grammar.{many, the_fields, a_last}
+use Rattle.sequence.specs.Grammar.{many}
+use Rattle.schema.specs.Grammar.{the_fields, a_last}
 use Rattle.schema.proofs.Places.{node_stops, node_after, node_bare, ranged_rest, numbered_rest}
 use Rattle.schema.proofs.nodes.read_schema.Goals as goal
 
