@@ -13,7 +13,7 @@ use request::reading::Request;
 use schema::reading::NoRules;
 
 // Which kinds of request are answered. A set of kinds in an array would be no plainer: here each kind has its name, and none can be left out.
-#[derive(Clone, Copy)]
+#[derive(Clone, Copy, Debug, PartialEq, Eq)]
 pub struct Offered {
     pub check: bool,
     pub find: bool,

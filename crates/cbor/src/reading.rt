@@ -8,7 +8,7 @@ ghost use Rattle.cbor.specs.Reading.{HeadAt, FormOf, IsWidth, BytesEnd};
 use crate::Major;
 
 // The argument of a head, and where what follows the head stands.
-#[derive(Clone, Copy)]
+#[derive(Clone, Copy, Debug, PartialEq, Eq)]
 pub struct Head {
     pub argument: u64,
     pub next: usize,
@@ -16,7 +16,7 @@ pub struct Head {
 
 // Where bytes cease to be the beginning of what is read, or how many there are if all of them begin it; and at least
 // how many there have to be if it begins with all of them.
-#[derive(Clone, Copy)]
+#[derive(Clone, Copy, Debug, PartialEq, Eq)]
 pub struct Stop {
     pub place: usize,
     pub least: usize,
@@ -24,7 +24,7 @@ pub struct Stop {
 
 // How an argument stands after the first byte: in `width` bytes, of which the first `front` show by at least `least`
 // that the form is the shortest.
-#[derive(Clone, Copy)]
+#[derive(Clone, Copy, Debug, PartialEq, Eq)]
 struct Form {
     front: usize,
     width: usize,

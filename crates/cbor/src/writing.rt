@@ -1,9 +1,10 @@
-// Heads and strings written into lent bytes. The place stands beside the bytes: who writes on after a refusal has it still, which a writer that moves it would have lost.
-ghost use Rattle.std.specs.Prelude.{◌≡◌, ℕ, ◌+◌, ◌≤◌, length, IsTrue, ◌↔◌};
+// Heads and strings written into lent bytes.
+ghost use Rattle.std.specs.Prelude.{◌≡◌, ℕ, length};
 ghost use Rattle.cbor.specs.Encoding.{head, major_number};
 ghost use Rattle.cbor.specs.Writing.{Writes};
 
 use crate::Major;
+use crate::reading::bytes_end;
 
 // How many bytes a head with this argument has.
 pub fn head_size(argument: u64) -> usize
@@ -18,24 +19,11 @@ pub fn head_size(argument: u64) -> usize
     }
 }
 
-// Whether so many bytes have room from a place on.
-pub fn has_room(out: &[u8], at: usize, size: usize) -> bool
-    ensures { IsTrue result ↔ (at + size ≤ length out.now) }
-{
-    match out.len().checked_sub(at) {
-        Some(left) => size <= left,
-        None => false,
-    }
-}
-
 // A string at a place, or None and nothing changed where there is no room for it.
 pub fn write_bytes(out: &mut [u8], at: usize, content: &[u8]) -> Option<usize>
     ensures { Writes out.old at content.now out.new result }
 {
-    if !has_room(out, at, content.len()) {
-        return None;
-    }
-    let next = at + content.len();
+    let next = bytes_end(out, at, content.len() as u64)?;
     out[at..next].copy_from_slice(content);
     Some(next)
 }

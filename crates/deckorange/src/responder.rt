@@ -13,7 +13,7 @@ use std::io;
 use std::io::{BufWriter, ErrorKind, Read, Stdout, Write};
 
 // What is left of what is held, past the complete requests.
-#[derive(Clone, Copy)]
+#[derive(Clone, Copy, Debug, PartialEq, Eq)]
 enum Pause {
     // It is the beginning of a request, which has at least so many bytes.
     Wants(usize),

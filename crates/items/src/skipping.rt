@@ -7,7 +7,7 @@ use cbor::Major;
 use cbor::reading::{bytes_end, read_head};
 
 // A head of any major type, and where what follows it stands.
-#[derive(Clone, Copy)]
+#[derive(Clone, Copy, Debug, PartialEq, Eq)]
 pub struct ItemHead {
     pub major: Major,
     pub argument: u64,

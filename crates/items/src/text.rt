@@ -1,12 +1,12 @@
 // Texts of an announced length, of which some bytes are there.
-// Public functions take any place and hand back plain ends: a place with its bound in its type would be made and taken apart at each call.
+// That a place is among the bytes stands in a clause: the loop that hands it on goes over plain places, so a type for it would be made and taken apart at each turn.
 ghost use Rattle.std.specs.Prelude.{◌≡◌, suc, ◌<◌, ◌≤◌, ℕ, length, slice_index};
 ghost use Rattle.cbor.specs.Utf8.{tails, second, first_in};
 ghost use Rattle.items.specs.Text.{ByteIn, TailsTold, CharTold, FirstWrong};
 
 // From which number to which one a byte of a character is.
 // No RangeInclusive, which also says whether it was gone through, so that each use would have to show that it wasn't.
-#[derive(Clone, Copy)]
+#[derive(Clone, Copy, Debug, PartialEq, Eq)]
 pub struct ByteRange {
     pub low: u8,
     pub high: u8,
@@ -27,7 +27,7 @@ pub fn second_of(first: u8) -> ByteRange
         0xed => (0x80, 0x9f),
         0xf0 => (0x90, 0xbf),
         0xf4 => (0x80, 0x8f),
-        _ => (0x80, 0xbf),
+        _ => return TAIL,
     };
     ByteRange { low, high }
 }
@@ -77,7 +77,7 @@ fn has_room(first: u8, left: u64) -> bool
     matches!(first, 0..=0x7f | 0xc2..=0xf4) && char_size(first) as u64 <= left
 }
 
-// Where the character ends that stands at a place, or where what stands there ceases to be the beginning of one.
+// Where the character ends that stands at a place, or where what stands there ceases to be the beginning of one: places both, as above.
 fn char_end(bytes: &[u8], at: usize, left: u64) -> Result<usize, usize>
     requires { at < length bytes.now }
     ensures { CharTold left bytes.now at result }

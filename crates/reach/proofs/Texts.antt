@@ -1,6 +1,6 @@
 -- Characters and texts, at places.
-use Rattle.std.proofs.Common.{◌≡◌, ℕ, zero, suc, ◌+◌, ◌-◌, ◌<◌, ◌≤◌, false, cond, ltb, List, [], ◌∷◌, ◌++◌, length, get_or, drop, Some, None, Bor, sym, refl, ap, ◌∙◌, subst, arith}
-use Rattle.std.proofs.lemmas.List.{drop_all, length-drop}
+use Rattle.std.proofs.Common.{◌≡◌, ℕ, zero, suc, ◌+◌, ◌-◌, ◌<◌, ◌≤◌, false, cond, ltb, List, [], ◌∷◌, ◌++◌, length, get_or, take, drop, Some, None, Bor, sym, refl, ap, ◌∙◌, subst, arith}
+use Rattle.std.proofs.lemmas.List.{drop_all, length-drop, get_or-take, get_or-drop}
 use Rattle.std.proofs.lemmas.Bool.{lt-leb, cond_both}
 use Rattle.std.proofs.Math.Bool.{and-false}
 use Rattle.cbor.specs.Utf8.{Range, tail, second, leads, tails}
@@ -33,7 +33,7 @@ left_more bs at end r m h l s (q ∷ rs) (p, t) e =
     (then_so bs at (at + 1) (get_or bs at 0) (walk_one (between q.0 q.1) (drop at bs)) (λ b u rest. walk_ranges rs rest) (λ b u k. joined (cond (ltb b q.1) 1 0) 1 k) end m (omega arith) (omega arith)
     (one_so bs at (between q.0 q.1) (omega arith)) (s rs t (omega arith)))
 
-pub char_start : (bs : List ℕ) (at end left reach : ℕ) (r : Range) → at < length bs → end ≡ at + suc (length (tails (get_or bs at 0))) → r ≡ second (get_or bs at 0) → reach ≡ from_bool (ltb (get_or bs at 0) (top_of_first left)) → CharSo bs at end left (at + 1) r reach
+char_start : (bs : List ℕ) (at end left reach : ℕ) (r : Range) → at < length bs → end ≡ at + suc (length (tails (get_or bs at 0))) → r ≡ second (get_or bs at 0) → reach ≡ from_bool (ltb (get_or bs at 0) (top_of_first left)) → CharSo bs at end left (at + 1) r reach
 char_start bs at end left reach r h e f g =
     let z : at + 1 - at ≡ 1 = omega arith in (
       omega (arith, byte_within (ltb (get_or bs at 0) (top_of_first left))),
@@ -43,7 +43,7 @@ char_start bs at end left reach r h e f g =
           (one_so bs at (first_in left) h) (s (tails (get_or bs at 0)) (rw f (tails_follow (get_or bs at 0))) (omega arith))),
     )
 
-pub char_more : (bs : List ℕ) (at end left place reach k n : ℕ) (r : Range) → at < place → place < end → end ≤ length bs → CharSo bs at end left place r reach → k ≡ from_bool (ltb (get_or bs place 0) r.1) → n ≡ joined reach (place - at) k → CharSo bs at end left (place + 1) tail n
+char_more : (bs : List ℕ) (at end left place reach k n : ℕ) (r : Range) → at < place → place < end → end ≤ length bs → CharSo bs at end left place r reach → k ≡ from_bool (ltb (get_or bs place 0) r.1) → n ≡ joined reach (place - at) k → CharSo bs at end left (place + 1) tail n
 char_more bs at end left place reach k n r h i l (within, so) e f =
     let z : place + 1 - at ≡ place - at + 1 = omega arith in
     let b = byte_within (ltb (get_or bs place 0) r.1) in (
@@ -53,13 +53,28 @@ char_more bs at end left place reach k n r h i l (within, so) e f =
           (so (joined (cond (ltb (get_or bs place 0) r.1) 1 0) 1 m) (left_more bs place end r m i l s)),
     )
 
-pub char_end : (bs : List ℕ) (at end left place reach : ℕ) (r : Range) → place ≡ end → CharSo bs at end left place r reach → (at + reach ≤ end) × DoneSo bs at end reach (walk_char left (drop at bs))
+char_end : (bs : List ℕ) (at end left place reach : ℕ) (r : Range) → place ≡ end → CharSo bs at end left place r reach → (at + reach ≤ end) × DoneSo bs at end reach (walk_char left (drop at bs))
 unfolding walk_ranges
 char_end bs at end left place reach r e (within, so) = (omega arith, so 0 left_none)
   where
     left_none : LeftSo bs place end r 0
     left_none [] t f = none_so bs place end 0 (sym e)
     left_none (q ∷ rs) t f = absurd (omega arith)
+
+-- the same by how many of them have been gone over
+pub char_first : (bs : List ℕ) (at end left reach : ℕ) (r : Range) → at < length bs → end ≡ at + suc (length (tails (get_or bs at 0))) → r ≡ second (get_or bs at 0) → reach ≡ from_bool (ltb (get_or bs at 0) (top_of_first left)) → CharSo bs at end left (at + 1 + 0) r reach
+char_first bs at end left reach r h e f g = subst (λ p. CharSo bs at end left p r reach) (let z : at + 1 ≡ at + 1 + 0 = omega arith in z) (char_start bs at end left reach r h e f g)
+
+pub char_next : (bs : List ℕ) (at end left i reach k n : ℕ) (r : Range) → at + 1 ≤ end → end ≤ length bs → i < length (take (end - (at + 1)) (drop (at + 1) bs)) → CharSo bs at end left (at + 1 + i) r reach → k ≡ from_bool (ltb (get_or (take (end - (at + 1)) (drop (at + 1) bs)) i 0) r.1) → n ≡ joined reach (i + 1) k → CharSo bs at end left (at + 1 + (i + 1)) tail n
+char_next bs at end left i reach k n r h l j so e f =
+    let z = part_length bs (at + 1) end h l in
+    let b : get_or (take (end - (at + 1)) (drop (at + 1) bs)) i 0 ≡ get_or bs (at + 1 + i) 0 = get_or-take (end - (at + 1)) (drop (at + 1) bs) i 0 (omega (arith, z)) ∙ get_or-drop (at + 1) bs i 0 in
+    let p : i + 1 ≡ at + 1 + i - at = omega arith in
+    subst (λ q. CharSo bs at end left q tail n) (let y : at + 1 + i + 1 ≡ at + 1 + (i + 1) = omega arith in y)
+    (char_more bs at end left (at + 1 + i) reach k n r (omega arith) (omega (arith, z)) l so (e ∙ ap (λ x. from_bool (ltb x r.1)) b) (f ∙ ap (λ x. joined reach x k) p))
+
+pub char_last : (bs : List ℕ) (at end left i reach : ℕ) (r : Range) → at + 1 ≤ end → end ≤ length bs → length (take (end - (at + 1)) (drop (at + 1) bs)) ≤ i → i ≤ length (take (end - (at + 1)) (drop (at + 1) bs)) → CharSo bs at end left (at + 1 + i) r reach → (at + reach ≤ end) × DoneSo bs at end reach (walk_char left (drop at bs))
+char_last bs at end left i reach r h l j k so = char_end bs at end left (at + 1 + i) reach r (omega (arith, part_length bs (at + 1) end h l)) so
 
 -- too few bytes
 ranges_short : (rs : List Range) (q : List ℕ) → length q < length rs → NeverDone (walk_ranges rs q)

@@ -19,7 +19,7 @@ use items::text::{TAIL, char_size, second_of};
 
 // Where an item ends, how far it reaches and how many valid items come after it in the order of bytes, counted up to u64::MAX.
 // It reaches up to and with its last byte that can be larger, counted from 1, or 0 if none can.
-#[derive(Clone, Copy)]
+#[derive(Clone, Copy, Debug, PartialEq, Eq)]
 pub struct Measurement {
     pub end: usize,
     pub reach: usize,
@@ -27,14 +27,14 @@ pub struct Measurement {
 }
 
 // Where a part of an item ends, and how far it reaches.
-#[derive(Clone, Copy)]
+#[derive(Clone, Copy, Debug, PartialEq, Eq)]
 struct Extent {
     end: usize,
     reach: usize,
 }
 
 // The reach of a part and what follows it: the later place wins.
-// 0 stands for none: an Option would be turned into this number for each Extent and Measurement, whose reach callers compare.
+// A reach is a length: of bytes that can't be raised it is 0, which needs no Option.
 fn join(first: usize, size: usize, second: usize) -> usize
     requires { size + second < 18446744073709551616 }
     ensures { result ≡ joined first size second }
@@ -94,9 +94,8 @@ fn char_reach(bytes: &[u8], at: usize, end: usize, left: u64) -> usize
     let first = bytes[at];
     let mut reach = usize::from(first < first_top(left));
     let mut range = second_of(first);
-    // the places count, so the loop goes over them and not over the bytes
-    for place in at + 1..end {
-        reach = join(reach, place - at, usize::from(bytes[place] < range.high));
+    for (index, byte) in bytes[at + 1..end].iter().enumerate() {
+        reach = join(reach, index + 1, usize::from(*byte < range.high));
         range = TAIL;
     }
     reach
@@ -210,9 +209,8 @@ fn measure_tag(bytes: &[u8], at: usize, number: u64, depth: u8) -> Option<Measur
 {
     let content = measure(bytes, at, depth.checked_sub(1)?)?;
     Some(Measurement {
-        end: content.end,
-        reach: content.reach,
         after: after_tag(number, content.after),
+        ..content
     })
 }
 
@@ -247,8 +245,7 @@ pub fn measure(bytes: &[u8], at: usize, depth: u8) -> Option<Measurement>
     let body = measure_body(bytes, head, depth)?;
     let own = head_reach(&bytes[at..head.next]);
     Some(Measurement {
-        end: body.end,
         reach: join(own, head.next - at, body.reach),
-        after: body.after,
+        ..body
     })
 }

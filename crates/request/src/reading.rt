@@ -7,7 +7,7 @@ use cbor::reading::Stop;
 use sequence::reading::{Parsed, read_number, read_opcode, read_string};
 
 // A step into an item: an array's element by its number from 0, the value at a key, what a tag is on.
-#[derive(Clone, Copy)]
+#[derive(Clone, Copy, Debug, PartialEq, Eq)]
 pub enum Step<'a> {
     Index(u64),
     Key(&'a [u8]),
@@ -15,13 +15,13 @@ pub enum Step<'a> {
 }
 
 // So many steps, in the bytes that they are written in.
-#[derive(Clone, Copy)]
+#[derive(Clone, Copy, Debug, PartialEq, Eq)]
 pub struct Path<'a> {
     pub count: u64,
     pub steps: &'a [u8],
 }
 
-#[derive(Clone, Copy)]
+#[derive(Clone, Copy, Debug, PartialEq, Eq)]
 pub enum Request<'a> {
     Check(&'a [u8]),
     Find(Path<'a>, &'a [u8]),

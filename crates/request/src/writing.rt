@@ -8,7 +8,8 @@ ghost use Rattle.request.specs.Reading.{Means, step_of};
 ghost use Rattle.request.specs.Writing.{find_bytes, request_bytes};
 
 use crate::reading::{Kind, Path, Request, Step, StepKind};
-use cbor::writing::{has_room, write_bytes};
+use cbor::reading::bytes_end;
+use cbor::writing::write_bytes;
 use sequence::writing::{Token, tokens_size, write_token, write_tokens};
 
 // A step at a place, or None and nothing changed where there is no room for it: a path is written step by step.
@@ -45,9 +46,7 @@ fn write_find(out: &mut [u8], at: usize, path: Path<'_>, item: &[u8]) -> Option<
     ensures { Writes out.old at (find_bytes path.entry item.now) out.new result }
 {
     let size = find_size(path, item)?;
-    if !has_room(out, at, size) {
-        return None;
-    }
+    bytes_end(out, at, size as u64)?;
     let count = write_token(out, at, Token::Number(Kind::Find as u64))?;
     let steps = write_token(out, count, Token::Number(path.count))?;
     let rest = write_bytes(out, steps, path.steps)?;

@@ -5,7 +5,7 @@ ghost use Rattle.schema.specs.declared.nodes.Node.TheVariants.{OfSchema, OfGroup
 use crate::nodes::{Field, Group, Node, Schema};
 
 // What stands after an opcode.
-#[derive(Clone, Copy)]
+#[derive(Clone, Copy, Debug, PartialEq, Eq)]
 pub enum Form<'a> {
     Bare,
     Number(u64),
@@ -14,7 +14,7 @@ pub enum Form<'a> {
 }
 
 // An opcode stays a number: the same one is written for a schema, a group and a field.
-#[derive(Clone, Copy)]
+#[derive(Clone, Copy, Debug, PartialEq, Eq)]
 pub struct Entry<'a> {
     pub(crate) opcode: u64,
     pub(crate) form: Form<'a>,

@@ -7,7 +7,7 @@ use cbor::Major;
 use cbor::reading::{Head, Stop, bytes_end, read_head};
 
 // What was read, and where what follows it stands.
-#[derive(Clone, Copy)]
+#[derive(Clone, Copy, Debug, PartialEq, Eq)]
 pub struct Parsed<T> {
     pub value: T,
     pub next: usize,

@@ -5,9 +5,10 @@ ghost use Rattle.sequence.specs.Token.{token_bytes, spell};
 ghost use Rattle.sequence.specs.Writing.{SizeOf, token_of, tokens_of};
 
 use cbor::Major;
-use cbor::writing::{has_room, head_size, write_bytes, write_head};
+use cbor::reading::bytes_end;
+use cbor::writing::{head_size, write_bytes, write_head};
 
-#[derive(Clone, Copy)]
+#[derive(Clone, Copy, Debug, PartialEq, Eq)]
 pub enum Token<'a> {
     Number(u64),
     Bytes(&'a [u8]),
@@ -42,9 +43,7 @@ pub fn write_token(out: &mut [u8], at: usize, token: Token<'_>) -> Option<usize>
         Token::Number(value) => write_head(out, at, Major::Unsigned, value),
         Token::Bytes(content) => {
             let size = token_size(token)?;
-            if !has_room(out, at, size) {
-                return None;
-            }
+            bytes_end(out, at, size as u64)?;
             let next = write_head(out, at, Major::Bytes, content.len() as u64)?;
             write_bytes(out, next, content)
         }
@@ -56,9 +55,7 @@ pub fn write_tokens(out: &mut [u8], at: usize, tokens: &[Token<'_>]) -> Option<u
     ensures { Writes out.old at (spell (tokens_of tokens.now)) out.new result }
 {
     let size = tokens_size(tokens)?;
-    if !has_room(out, at, size) {
-        return None;
-    }
+    bytes_end(out, at, size as u64)?;
     let mut next = at;
     for token in tokens {
         next = write_token(out, next, *token)?;
