@@ -47,7 +47,7 @@ impl Responder {
 
     // Answers all that `reader` gives. `name` is what a fault calls it.
     pub fn answer_all<R: Read>(&mut self, name: String, reader: &mut R) -> Result<(), Fault> {
-        // Nothing says that an input ends.
+        // An input need not end and a loop has to: so many rounds, which no input reaches.
         for _ in 0..u64::MAX {
             let least = match self.answer_held()? {
                 Pause::Wants(least) => least,

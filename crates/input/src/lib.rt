@@ -44,6 +44,6 @@ pub enum Filled {
     Enough,
     // The input has ended.
     Ended,
-    // More were wanted than the buffer takes, or it is full: nothing was read.
+    // More were wanted than the buffer takes, or it is full: nothing was read. No error of the input, which was not asked.
     NoRoom,
 }

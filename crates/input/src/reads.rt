@@ -17,7 +17,7 @@ impl Window {
         if least > BUFFER || self.len() >= BUFFER {
             return Ok(Filled::NoRoom);
         }
-        // Nothing says that an input ends.
+        // An input need not end and a loop has to: so many rounds, which no input reaches.
         for _ in 0..u64::MAX {
             match self.read_more(reader) {
                 Ok(0) => return Ok(Filled::Ended),
