@@ -1,49 +1,19 @@
-// The laws of items and their encoding, each the contract of a function.
+// The laws of items and their encoding, each a clause of a function that has nothing to do.
 
 #![tactic(auto)]
 
 ghost use Rattle.laws.specs.Laws.{AtTheLimits, DecodedIsEncoded, EncodedIsBytes, EncodedIsDecoded, InsideIsShorter, KeysInOrder, MapsByValues, OneWay, SameBytes, TakesNoMore, Utf8ByCharacters};
 
-pub fn encoded_is_decoded_stands()
-    ensures { EncodedIsDecoded }
-{}
-
-pub fn decoded_is_encoded_stands()
-    ensures { DecodedIsEncoded }
-{}
-
-pub fn takes_no_more_stands()
-    ensures { TakesNoMore }
-{}
-
-pub fn one_way_stands()
-    ensures { OneWay }
-{}
-
-pub fn same_bytes_stands()
-    ensures { SameBytes }
-{}
-
-pub fn maps_by_values_stands()
-    ensures { MapsByValues }
-{}
-
-pub fn keys_in_order_stands()
-    ensures { KeysInOrder }
-{}
-
-pub fn encoded_is_bytes_stands()
-    ensures { EncodedIsBytes }
-{}
-
-pub fn inside_is_shorter_stands()
-    ensures { InsideIsShorter }
-{}
-
-pub fn utf8_by_characters_stands()
-    ensures { Utf8ByCharacters }
-{}
-
-pub fn at_the_limits_stands()
-    ensures { AtTheLimits }
+pub fn theory_stands()
+    ensures encoded_is_decoded { EncodedIsDecoded }
+    ensures decoded_is_encoded { DecodedIsEncoded }
+    ensures takes_no_more { TakesNoMore }
+    ensures one_way { OneWay }
+    ensures same_bytes { SameBytes }
+    ensures maps_by_values { MapsByValues }
+    ensures keys_in_order { KeysInOrder }
+    ensures encoded_is_bytes { EncodedIsBytes }
+    ensures inside_is_shorter { InsideIsShorter }
+    ensures utf8_by_characters { Utf8ByCharacters }
+    ensures at_the_limits { AtTheLimits }
 {}

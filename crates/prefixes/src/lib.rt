@@ -1,25 +1,13 @@
-// What is promised of the first wrong byte, each the contract of a function.
+// What is promised of the first wrong byte, each a clause of a function that has nothing to do.
 
 #![tactic(auto)]
 
 ghost use Rattle.prefixes.specs.Verdict.{BeginsIsPrefix, CheckIsRight, OneVerdict, RoomIsEntries, WalkIsRight};
 
-pub fn check_is_right_stands()
-    ensures { CheckIsRight }
-{}
-
-pub fn one_verdict_stands()
-    ensures { OneVerdict }
-{}
-
-pub fn walk_is_right_stands()
-    ensures { WalkIsRight }
-{}
-
-pub fn begins_is_prefix_stands()
-    ensures { BeginsIsPrefix }
-{}
-
-pub fn room_is_entries_stands()
-    ensures { RoomIsEntries }
+pub fn theory_stands()
+    ensures check_is_right { CheckIsRight }
+    ensures one_verdict { OneVerdict }
+    ensures walk_is_right { WalkIsRight }
+    ensures begins_is_prefix { BeginsIsPrefix }
+    ensures room_is_entries { RoomIsEntries }
 {}
