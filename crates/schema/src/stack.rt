@@ -4,13 +4,14 @@ ghost use Rattle.schema.specs.declared.reading.TheConstants.{STACK};
 
 use crate::nodes::{Run, Sort};
 
-impl From<u64> for Sort {
+impl Sort {
     ghost use Rattle.schema.specs.Nodes.{sort_of};
     ghost use Rattle.schema.specs.Stacks.{number_sort};
 
-    ghost from_gives = { λ n s. sort_of s ≡ number_sort n };
-
-    fn from(number: u64) -> Sort {
+    // The sort that a number of lent memory was pushed for; no TryFrom, as numbers that were never pushed are taken for the last.
+    fn pushed_as(number: u64) -> Sort
+        ensures { sort_of result ≡ number_sort number }
+    {
         match number {
             0 => Sort::ARule,
             1 => Sort::ASchema,
@@ -66,7 +67,7 @@ impl Stack<'_> {
             let top = self.depth - 1;
             if self.numbers[2 * top + 1] > 0 {
                 self.numbers[2 * top + 1] -= 1;
-                return Some(Sort::from(self.numbers[2 * top]));
+                return Some(Sort::pushed_as(self.numbers[2 * top]));
             }
             self.depth = top;
         }
