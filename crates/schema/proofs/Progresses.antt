@@ -59,10 +59,12 @@ unfolding many
 whole_many zero s ss o w = w
 whole_many (suc k) s ss o w = o
 
-pub whole_pending : (stack : List ℕ) (k : ℕ) → Whole (pending stack k)
+pub whole_pending : (runs : List (List ℕ)) (k : ℕ) → Whole (pending runs k)
 unfolding pending
-whole_pending stack zero = tt
-whole_pending stack (suc k) = whole_many (get_or stack (2 * k + 1) 0) (number_sort (get_or stack (2 * k) 0)) (pending stack k) (opens (get_or stack (2 * k) 0)) (whole_pending stack k)
+whole_pending runs zero = tt
+whole_pending runs (suc k) =
+    let run = get_or runs k [] in
+    whole_many (get_or run 1 0) (number_sort (get_or run 0 0)) (pending runs k) (opens (get_or run 0 0)) (whole_pending runs k)
   where
     opens : (n : ℕ) → Opens (number_sort n)
     opens zero = tt

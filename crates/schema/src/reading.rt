@@ -63,10 +63,8 @@ fn read_all(bytes: &[u8], stack: &mut [u64], table: &mut [u64]) -> Result<Rules,
     ensures { RulesAt bytes.now table.new result }
 {
     let rules = read_number(bytes, 0)?;
-    let mut stack = Stack {
-        numbers: stack,
-        depth: 0,
-    };
+    let (runs, _) = stack.as_chunks_mut::<2>();
+    let mut stack = Stack { runs, depth: 0 };
     stack.push(Run {
         sort: Sort::ARule,
         count: rules.argument,

@@ -5,7 +5,7 @@ use Rattle.schema.proofs.reading.read_all.Given as goal
 
 abbrev pub invariant-loop-sort : goal.invariant-loop-sort
 invariant-loop-sort l = record {
-  stands : Stands l.reader (pending l.stack.numbers.now l.stack.depth);
+  stands : Stands l.reader (pending l.stack.runs.now l.stack.depth);
   deep : l.stack.depth ≤ l.reader.parts + 1;
   room : 32768 ≤ length l.reader.table.now;
   bytes : l.reader.bytes.now ≡ l.bytes;
