@@ -8,7 +8,7 @@ impl Sort {
     ghost use Rattle.schema.specs.Nodes.{sort_of};
     ghost use Rattle.schema.specs.Stacks.{number_sort};
 
-    // The sort that a number of lent memory was pushed for; no TryFrom, as numbers that were never pushed are taken for the last.
+    // The sort that was pushed as this number; no TryFrom, as only what was pushed is read and its error would never be met.
     fn pushed_as(number: u64) -> Sort
         ensures { sort_of result ≡ number_sort number }
     {
