@@ -1,5 +1,5 @@
 -- Reading rules, node by node.
-use Rattle.std.proofs.Common.{◌≡◌, ℕ, zero, suc, ◌+◌, ◌-◌, ◌*◌, ◌<◌, ◌≤◌, List, [], ◌∷◌, ◌++◌, length, get_or, take, drop, Ok, Err, Result, IsErrAnd, sym, refl, ap, ◌∙◌, subst, inl, inr, append_assoc, arith, take-append-drop}
+use Rattle.std.proofs.Common.{◌≡◌, ℕ, zero, suc, ◌+◌, ◌-◌, ◌<◌, ◌≤◌, List, [], ◌∷◌, ◌++◌, length, get_or, take, drop, Ok, Err, Result, IsErrAnd, sym, refl, ap, ◌∙◌, subst, inl, inr, append_assoc, arith, take-append-drop}
 use Rattle.std.proofs.lemmas.Bool.{cases_lt}
 use Rattle.std.proofs.lemmas.List.{append-nil, take_all, take_more}
 use Rattle.cbor.specs.declared.reading.Stop.{Stop}
@@ -29,6 +29,7 @@ use Rattle.schema.specs.Verdict.{HasTooMany, WrongAt, Reached, Refused, Tabled, 
 use Rattle.schema.proofs.Trees.{rules_take, rules_in, are_completes, completes_are}
 use Rattle.schema.specs.Table.{rows, RowWritten}
 use Rattle.schema.proofs.Places.{ceases_first}
+use Rattle.schema.proofs.Rows.{rows_before}
 use Rattle.schema.proofs.Parts.{parts_append, rules_count, node_weighs}
 
 -- where pending rules stop, they are wrong
@@ -59,10 +60,12 @@ unfolding many
 whole_many zero s ss o w = w
 whole_many (suc k) s ss o w = o
 
-pub whole_pending : (stack : List ℕ) (k : ℕ) → Whole (pending stack k)
+pub whole_pending : (runs : List (List ℕ)) (k : ℕ) → Whole (pending runs k)
 unfolding pending
-whole_pending stack zero = tt
-whole_pending stack (suc k) = whole_many (get_or stack (2 * k + 1) 0) (number_sort (get_or stack (2 * k) 0)) (pending stack k) (opens (get_or stack (2 * k) 0)) (whole_pending stack k)
+whole_pending runs zero = tt
+whole_pending runs (suc k) =
+    let run = get_or runs k [] in
+    whole_many (get_or run 1 0) (number_sort (get_or run 0 0)) (pending runs k) (opens (get_or run 0 0)) (whole_pending runs k)
   where
     opens : (n : ℕ) → Opens (number_sort n)
     opens zero = tt
@@ -187,6 +190,11 @@ module _ (bs table : List ℕ) (at parts_read nodes : ℕ) (h : Reached bs table
 -- all of them, as the table ends
 pub whole : (bs given table final : List ℕ) (at parts_read nodes : ℕ) → Reached bs table [] at parts_read nodes → bs ≡ given → final ≡ table → length bs ≤ at → ((xs : List Schema) × AreRules xs given × (parts_read ≡ parts xs) × Tabled xs given final nodes) × (nodes ≤ parts_read) × (parts_read ≤ 8192) × (HasTooMany given → ⊥)
 whole bs given table final at parts_read nodes h e f l = subst (λ w. ((xs : List Schema) × AreRules xs w × (parts_read ≡ parts xs) × Tabled xs w final nodes) × (nodes ≤ parts_read) × (parts_read ≤ 8192) × (HasTooMany w → ⊥)) e (subst (λ t. ((xs : List Schema) × AreRules xs bs × (parts_read ≡ parts xs) × Tabled xs bs t nodes) × (nodes ≤ parts_read) × (parts_read ≤ 8192) × (HasTooMany bs → ⊥)) (sym f) (all_read bs table at parts_read nodes h l))
+
+-- in a longer table too
+pub lengthened : (bs table rest : List ℕ) (r : Result Rules NoRules) → length table ≡ 32768 → RulesAt bs table r → RulesAt bs (table ++ rest) r
+lengthened bs table rest (Ok r) l ((xs, w, e, t), n, m, f) = ((xs, w, e, t ∙ ap (λ ts. num (length xs) ∷ ts) (sym (rows_before bs table rest r.nodes (omega arith)))), n, m, f)
+lengthened bs table rest (Err e) l h = h
 
 -- READ BACK
 

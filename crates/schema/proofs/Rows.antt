@@ -24,6 +24,10 @@ rows_same bs old new (suc n) h =
     let d = h (4 * n + 3) (omega arith) in
     (λ i. rows_same bs old new n (λ j l. h j (omega arith)) i ++ row_says bs (a i) (b i) (c i) (d i))
 
+-- what stands after them says nothing
+pub rows_before : (bs table rest : List ℕ) (n : ℕ) → 4 * n ≤ length table → rows bs (table ++ rest) n ≡ rows bs table n
+rows_before bs table rest n h = rows_same bs table (table ++ rest) n (λ j l. get_or_append_left table rest 0 j (omega arith))
+
 row_same : (bs row table : List ℕ) (n : ℕ) → ((j : ℕ) → j < 4 → get_or row j 0 ≡ get_or table (4 * n + j) 0) → row_at bs row 0 ≡ row_at bs table n
 row_same bs row table n h =
     let a : get_or row 0 0 ≡ get_or table (4 * n) 0 = h 0 (omega arith) ∙ ap (λ j. get_or table j 0) (omega arith) in

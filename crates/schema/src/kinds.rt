@@ -6,6 +6,7 @@ ghost use Rattle.schema.specs.declared.nodes.Node.TheVariants.{OfSchema, OfGroup
 use crate::entries::{Entry, Form};
 use crate::nodes::{Field, Group, Node, Schema};
 
+// No TryFrom<Entry>: it has no place for the ghost `node`, by which `node_at` says what it gives of any kind.
 pub trait NodeKind<'a>: Sized {
     ghost node: { Self → Node };
 
@@ -67,6 +68,7 @@ impl<'a> NodeKind<'a> for Node<'a> {
     ghost node = { λ x. x };
 
     fn of_entry(entry: Entry<'a>) -> Option<Node<'a>> {
+        // Tried: `or_else`. No proof is made of a closure that captures the entry and gives what holds its bytes.
         if let Some(schema) = Schema::of_entry(entry) {
             Some(Node::OfSchema(schema))
         } else if let Some(group) = Group::of_entry(entry) {

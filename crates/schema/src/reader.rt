@@ -11,7 +11,7 @@ use crate::sorts::read_node;
 use crate::table::write_row;
 
 // The bytes and the table, and how far reading has come: to which byte, after how many parts and nodes.
-// What `advance` requires is no ghost field: of a struct with one, no proof learns what its `&mut` ends as.
+// What `advance` requires is no ghost field: with one, `read_all` doesn't learn what the table ends as, which nobody asks of a Stack's runs.
 #[derive(Drop)]
 pub(crate) struct Reader<'b, 't> {
     pub(crate) bytes: &'b [u8],

@@ -2,6 +2,7 @@
 ghost use Rattle.std.specs.Prelude.{◌≡◌, length, Some};
 ghost use Rattle.schema.specs.Verdict.{reason, Enough, RulesAt, RulesTold, ReadsBack};
 ghost use Rattle.schema.specs.declared.reading.NoRules.TheVariants.{Wrong};
+ghost use Rattle.schema.specs.declared.reading.TheConstants.{TABLE};
 
 use crate::nodes::{Run, Sort};
 use crate::reader::Reader;
@@ -58,15 +59,17 @@ impl From<Stop> for NoRules {
 }
 
 #[tactic(auto, using(crate::proofs::Progresses::begun, crate::proofs::Progresses::whole_pending), unfolding(crate::specs::Stacks::pending))]
-fn read_all(bytes: &[u8], stack: &mut [u64], table: &mut [u64]) -> Result<Rules, NoRules>
-    requires { Enough (length stack.old) (length table.old) }
-    ensures { RulesAt bytes.now table.new result }
+fn read_all(
+    bytes: &[u8],
+    stack: &mut [u64; STACK],
+    table: &mut [u64; TABLE],
+) -> Result<Rules, NoRules>
+    ensures rules { RulesAt bytes.now table.new result }
+    ensures room { length table.new ≡ TABLE }
 {
     let rules = read_number(bytes, 0)?;
-    let mut stack = Stack {
-        numbers: stack,
-        depth: 0,
-    };
+    let (runs, _) = stack.as_chunks_mut::<2>();
+    let mut stack = Stack { runs, depth: 0 };
     stack.push(Run {
         sort: Sort::ARule,
         count: rules.argument,
@@ -91,13 +94,15 @@ fn read_all(bytes: &[u8], stack: &mut [u64], table: &mut [u64]) -> Result<Rules,
 }
 
 // The rules that some bytes are, as a table of their nodes, or why they are none to look at.
-#[tactic(auto, using(crate::proofs::Progresses::told_from, crate::proofs::Progresses::read_back))]
 pub fn read_rules(bytes: &[u8], stack: &mut [u64], table: &mut [u64]) -> Result<Rules, NoRules>
     ensures told { RulesTold (Enough (length stack.old) (length table.old)) bytes.now table.new result }
     ensures back { ReadsBack (Enough (length stack.old) (length table.old)) bytes.now table.new result }
 {
-    if stack.len() < STACK || table.len() < TABLE {
+    let (Some(stack), Some(table)) = (
+        stack.first_chunk_mut::<STACK>(),
+        table.first_chunk_mut::<TABLE>(),
+    ) else {
         return Err(NoRules::TooLittleLent);
-    }
+    };
     read_all(bytes, stack, table)
 }

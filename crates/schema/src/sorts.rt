@@ -30,7 +30,14 @@ impl Schema<'_> {
             Schema::Array => (Sort::AGroup, 1),
             Schema::Map(count) => (Sort::AField, count),
             Schema::Tag(_) => (Sort::ASchema, 1),
-            _ => (Sort::ASchema, 0),
+            // No Option: a map of no fields gives an empty run anyway.
+            Schema::Any
+            | Schema::Unsigned(_, _)
+            | Schema::Negative(_, _)
+            | Schema::ByteLength(_, _)
+            | Schema::TextLength(_, _)
+            | Schema::Literal(_)
+            | Schema::Rule(_) => (Sort::ASchema, 0),
         };
         Run { sort, count }
     }

@@ -1,6 +1,7 @@
 // The table of rules in lent numbers: a row for each node, in the order of their bytes.
 ghost use Rattle.std.specs.Prelude.{◌≡◌, ◌+◌, ◌*◌, ◌≤◌, length, take, drop};
 ghost use Rattle.schema.specs.Entries.{form_tokens};
+ghost use Rattle.schema.specs.declared.table.TheConstants.{ROW};
 ghost use Rattle.schema.specs.Table.{row_at, RowOf, RowWritten, EntryAt, Seen};
 
 use crate::entries::{Entry, Form};
@@ -37,10 +38,11 @@ fn row_of(entry: Entry<'_>, next: usize) -> [u64; ROW]
 
 #[tactic(auto, using(crate::proofs::Rows::row_written, std::proofs::lemmas::Slice::overwrites))]
 pub(crate) fn write_row(table: &mut [u64], index: usize, node: Node<'_>, next: usize)
-    requires { 4 * index + 4 ≤ length table.old }
+    requires { ROW * index + ROW ≤ length table.old }
     ensures { RowWritten table.old index node.entry next table.new }
 {
     let row = row_of(Entry::from(node), next);
+    // Tried: `as_chunks_mut`. Its contract says nothing of what the table ends as.
     table[ROW * index..ROW * index + ROW].copy_from_slice(&row);
 }
 

@@ -5,9 +5,9 @@ use Rattle.schema.proofs.reading.read_all.Given as goal
 
 abbrev pub invariant-loop-sort : goal.invariant-loop-sort
 invariant-loop-sort l = record {
-  stands : Stands l.reader (pending l.stack.numbers.now l.stack.depth);
+  stands : Stands l.reader (pending l.stack.runs.now l.stack.depth);
   deep : l.stack.depth ≤ l.reader.parts + 1;
-  room : 32768 ≤ length l.reader.table.now;
+  room : length l.reader.table.now ≡ 32768;
   bytes : l.reader.bytes.now ≡ l.bytes;
   table : l.reader.table.ghost_name ≡ l.initial.reader.table.ghost_name;
 }
