@@ -14,7 +14,8 @@ pub(crate) struct KeySpan {
     pub(crate) end: usize,
 }
 
-// The last key, as a map keeps it in its frame: two numbers of lent memory, since a library takes no other. No key ends at 0.
+// The last key, as a map keeps it in its frame. No key ends at 0.
+// Two numbers and no local: the last keys of all maps are kept in the memory that is lent for them, and the stack stays small.
 pub(crate) fn last_key(own: [u64; FRAME]) -> Option<KeySpan>
     ensures { Kept own result }
 {

@@ -65,7 +65,7 @@ impl fmt::Display for NotChecked {
 impl Error for NotChecked {}
 
 // Why a walk over an item ends before the item does: all bytes that are there begin one, or none begins with this byte.
-// Not an Option of the place: ? hands it on as an error, and as None it would not say that all bytes are right so far.
+// Not an Option of the place: two named cases tell which of both it is.
 #[derive(Clone, Copy, Debug, PartialEq, Eq)]
 enum Stop {
     Cut,
