@@ -6,7 +6,7 @@ ghost use Rattle.checker.specs.Ends.{stop_within, Headed};
 
 use crate::Stop;
 use cbor::Major;
-use cbor::reading::{self, read_head};
+use cbor::reading::{Stop as ReaderStop, read_head};
 use items::skipping::ItemHead;
 
 // Whether an item may begin so.
@@ -47,7 +47,7 @@ fn long_simple(bytes: &[u8], at: usize, demand: u64) -> Result<ItemHead, Stop>
 }
 
 // A reader that stops at a byte finds it wrong, and one that stops where there is none misses it.
-fn stop_within(bytes: &[u8], stop: reading::Stop) -> Stop
+fn stop_within(bytes: &[u8], stop: ReaderStop) -> Stop
     ensures { result ≡ stop_within (length bytes.now) stop.place }
 {
     if stop.place < bytes.len() {
@@ -57,6 +57,7 @@ fn stop_within(bytes: &[u8], stop: reading::Stop) -> Stop
     }
 }
 
+// Read anew and not by items' head_at: its None doesn't tell where a head is wrong, or that it is cut.
 pub(crate) fn head_of(bytes: &[u8], at: usize, depth: u8, demand: u64) -> Result<ItemHead, Stop>
     ensures told { Headed bytes.now at result (walk_head depth demand (drop at bytes.now)) }
     ensures deep { IfOk result (λ head. Deep depth head.major) }

@@ -1,7 +1,7 @@
 // The walk over an item: where it ends, or why it stops before.
 //
 // Places stay plain: public functions take any place and hand back plain ends, so a place with its fact in its type would be made and taken
-// apart at each call. Nor are place, depth and frames one struct: the place moves on, the depth, which `measure` takes as a u8, falls, and
+// apart at each call. Nor are place, depth and frames one struct: the place moves on, the depth, which reach measures by as a u8, falls, and
 // the frames are handed on by &mut.
 ghost use Rattle.std.specs.Prelude.{◌≡◌, ◌-◌, ◌<◌, ◌≤◌, [], length, drop, if◌then◌else◌, nat_eq};
 ghost use Rattle.prefixes.specs.Walks.{walk_text, walk_many, walk_pairs, walk as told};
