@@ -1,16 +1,16 @@
 -- Keys and values one after another, at places.
-use Rattle.std.proofs.Common.{◌≡◌, ℕ, slice_range, suc, ◌+◌, ◌-◌, ◌<◌, ◌≤◌, true, false, List, [], ◌∷◌, length, get_or, drop, Some, None, Ok, Err, Option, Result, sym, refl, ap, ◌∙◌, subst, inl, inr, arith}
+use Rattle.std.proofs.Common.{◌≡◌, ℕ, slice_range, suc, ◌+◌, ◌-◌, ◌<◌, ◌≤◌, true, false, Bool, List, [], ◌∷◌, length, get_or, drop, Some, None, Ok, Err, Option, Result, sym, refl, ap, ◌∙◌, subst, inl, inr, arith}
 use Rattle.std.specs.Option.{unwrap_or}
+use Rattle.std.specs.Ordering.{nat_cmp, is_lt, is_some_and}
+use Rattle.std.specs.Cmp.Lexicographic.{slice_partial_cmp}
+use Rattle.std.proofs.lemmas.Cmp.{same_from_slice_cmp_tested}
+use Rattle.std.proofs.lemmas.Bool.Decides.{nat_tests}
 use Rattle.std.proofs.lemmas.List.{length-drop, drop_all}
-use Rattle.std.proofs.lemmas.Bool.{false_from_ne_true, cases_lt}
+use Rattle.std.proofs.lemmas.Bool.{cases_lt}
 use Rattle.cbor.specs.Encoding.{all_bytes}
 use Rattle.cbor.specs.Order.{before}
 use Rattle.cbor.proofs.Numbers.{bytes_drop}
-use Rattle.cbor.proofs.Order.{before_irreflexive, before_transitive}
 use Rattle.cbor.proofs.Places.{part_rest, part_length}
-use Rattle.items.specs.declared.comparing.Comparison.{Comparison}
-use Rattle.items.specs.declared.comparing.Comparison.TheVariants.{Before, Same, After}
-use Rattle.items.specs.Comparing.{Compared}
 use Rattle.prefixes.specs.Words.{Reach, Keyed, joined}
 use Rattle.prefixes.specs.Shapes.{ItemAt}
 use Rattle.prefixes.specs.Walks.{Told, done, on_told, carry, odd_at, settle, next_key, reach_of_key, walk_pairs, walk, Holds, Says}
@@ -32,13 +32,10 @@ use Rattle.checker.proofs.Odds.{OddTold, odd_past, odd_placed, apart_larger, odd
 
 -- COMPARING WHOLE KEYS
 
-not_after : (xs ys : List ℕ) (r : Comparison) → Compared xs ys r → ((i : ℕ) → r ≡ Before i → ⊥) → false ≡ before xs ys
-not_after xs ys (Before i) c h = absurd (h i refl)
-not_after xs ys Same c h = sym (false_from_ne_true (before xs ys) (λ e. before_irreflexive xs (subst (λ z. before xs z ≡ true) (sym c) e)))
-not_after xs ys (After i) c h = sym (false_from_ne_true (before xs ys) (λ e. before_irreflexive xs (before_transitive xs ys xs e c.1)))
-
-pub key_not_after : (bs : List ℕ) (last : Option KeySpan) (s : KeySpan) (at end : ℕ) (r : Comparison) → last ≡ Some s → Compared (slice_range bs s.start s.end) (slice_range bs at end) r → ((i : ℕ) → r ≡ Before i → ⊥) → AfterLast bs last at end false
-key_not_after bs last s at end r e c h = subst (λ l. AfterLast bs l at end false) (sym e) (not_after (slice_range bs s.start s.end) (slice_range bs at end) r c h)
+-- the library's order of slices is the order of keys
+pub before_by_order : (xs ys : List ℕ) (r : Bool) → r ≡ is_some_and is_lt (slice_partial_cmp (λ x y. Some (nat_cmp x y)) xs ys) → r ≡ before xs ys
+unfolding before
+before_by_order = same_from_slice_cmp_tested nat_cmp is_lt before refl (λ _ _. refl) (λ _ _. refl) (λ x y xs ys o h. grind (arith, nat_tests))
 
 -- REFUSING A KEY
 

@@ -35,8 +35,7 @@ fn comes_after(bytes: &[u8], last: Option<KeySpan>, at: usize, end: usize) -> bo
     let Some(last) = last else {
         return true;
     };
-    let order = compare(&bytes[last.start..last.end], &bytes[at..end]);
-    matches!(order, Comparison::Before(_))
+    bytes[last.start..last.end] < bytes[at..end]
 }
 
 // The first place at which a key is at odds with as much of the last one as it can pass.
