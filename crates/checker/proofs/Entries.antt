@@ -5,7 +5,7 @@ use Rattle.std.specs.Ordering.{nat_cmp, is_lt, is_some_and}
 use Rattle.std.specs.Cmp.Lexicographic.{slice_partial_cmp}
 use Rattle.std.proofs.lemmas.Cmp.{same_from_slice_cmp_tested}
 use Rattle.std.proofs.lemmas.Bool.Decides.{nat_tests}
-use Rattle.std.proofs.lemmas.List.{length-drop, drop_all}
+use Rattle.std.proofs.lemmas.List.{length-drop}
 use Rattle.std.proofs.lemmas.Bool.{cases_lt}
 use Rattle.cbor.specs.Encoding.{all_bytes}
 use Rattle.cbor.specs.Order.{before}
@@ -28,7 +28,7 @@ use Rattle.cbor.proofs.Items.{encode_not_empty}
 use Rattle.prefixes.proofs.Items.{item_from_word}
 use Rattle.prefixes.proofs.Free.{item_free}
 use Rattle.prefixes.proofs.Verdict.{walk_is_right}
-use Rattle.checker.proofs.Odds.{OddTold, odd_past, odd_placed, apart_larger, odd_there}
+use Rattle.checker.proofs.Odds.{OddTold, odd_placed, apart_larger, odd_there}
 
 -- COMPARING WHOLE KEYS
 
@@ -59,18 +59,14 @@ module _ (bs : List ℕ) (d : ℕ) (last : Option KeySpan) (at : ℕ) where
     odds_are n [] l = absurd (subst (λ x. LastAt bs d n x []) is l)
     odds_are n (k ∷ ks) l = odd_is bs d n s m measured k ks (subst (λ x. LastAt bs d n x (k ∷ ks)) is l) (drop at bs)
 
-    pub odd_with_past : length bs ≤ at → OddWith bs d last at None
-    odd_with_past h n ls l = odds_are n ls l ∙ ap (odd_at m.reach (drop s.start bs)) (drop_all at bs h) ∙ odd_past m.reach (drop s.start bs)
+    told : (r : Option ℕ) → OddOf (slice_range bs s.start (s.start + m.reach)) (slice_range bs at (length bs)) r → OddTold bs s.start m.reach at r
+    told r o = odd_placed bs s.start m.reach at (let (h, k) = measured.0 in omega arith) r (subst (λ q. OddOf (slice_range bs s.start (s.start + m.reach)) q r) (rest_is bs at) o)
 
-    module _ (key : List ℕ) (key_is : key ≡ slice_range bs at (length bs)) where
-      told : (r : Option ℕ) → OddOf (slice_range bs s.start (s.start + m.reach)) key r → OddTold bs s.start m.reach at r
-      told r o = odd_placed bs s.start m.reach at (let (h, k) = measured.0 in omega arith) r (subst (λ q. OddOf (slice_range bs s.start (s.start + m.reach)) q r) (key_is ∙ rest_is bs at) o)
+    pub odd_with_none : OddOf (slice_range bs s.start (s.start + m.reach)) (slice_range bs at (length bs)) None → OddWith bs d last at None
+    odd_with_none o n ls l = odds_are n ls l ∙ told None o
 
-      pub odd_with_none : OddOf (slice_range bs s.start (s.start + m.reach)) key None → OddWith bs d last at None
-      odd_with_none o n ls l = odds_are n ls l ∙ told None o
-
-      pub odd_with_some : (j : ℕ) → OddOf (slice_range bs s.start (s.start + m.reach)) key (Some j) → OddWith bs d last at (Some (at + j))
-      odd_with_some j o = (omega arith, λ n ls l. odds_are n ls l ∙ (told (Some j) o).0 ∙ ap (λ i. i ∷ []) (let z : j ≡ at + j - at = omega arith in z))
+    pub odd_with_some : (j : ℕ) → OddOf (slice_range bs s.start (s.start + m.reach)) (slice_range bs at (length bs)) (Some j) → OddWith bs d last at (Some (at + j))
+    odd_with_some j o = (omega arith, λ n ls l. odds_are n ls l ∙ (told (Some j) o).0 ∙ ap (λ i. i ∷ []) (let z : j ≡ at + j - at = omega arith in z))
 
   -- there is such a place where a whole key does not come after the last one
   pub misplaced_by : (r : Option ℕ) → OddWith bs d last at r → Misplaced bs d last at (unwrap_or r at)

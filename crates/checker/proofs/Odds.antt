@@ -117,12 +117,6 @@ ties_before i l q h (e, f) =
 pub ties_same : (l q : List ℕ) → l ≡ q → Ties l q
 ties_same l q e = (omega (arith, ap length e), ap (λ n. take n q) (ap length e) ∙ take_all (length q) q (omega arith) ∙ sym e)
 
-pub odd_past : (m : ℕ) (l : List ℕ) → odd_at m l [] ≡ []
-unfolding odd_at
-odd_past zero l = refl
-odd_past (suc m) [] = refl
-odd_past (suc m) (x ∷ l) = refl
-
 odd_none : (m : ℕ) (l q : List ℕ) → m ≡ 0 → odd_at m l q ≡ []
 unfolding odd_at
 odd_none m l q e = rw e

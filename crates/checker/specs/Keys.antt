@@ -1,5 +1,5 @@
 -- The keys of a map at places: the last one, whether the next comes after it, and where it is at odds with it.
-use Rattle.std.specs.Prelude.{◌≡◌, ℕ, suc, ◌-◌, ◌<◌, ◌≤◌, Bool, true, false, List, [], ◌∷◌, length, drop, Some, None, Ok, Err, Option, Result, slice_index, slice_range}
+use Rattle.std.specs.Prelude.{◌≡◌, ℕ, suc, ◌-◌, ◌<◌, ◌≤◌, Bool, true, false, List, [], ◌∷◌, length, drop, Some, None, IfSome, Ok, Err, Option, Result, slice_index, slice_range}
 use Rattle.cbor.specs.Order.{before}
 use Rattle.prefixes.specs.Words.{Reach, Room}
 use Rattle.prefixes.specs.Shapes.{ItemAt}
@@ -16,8 +16,7 @@ Kept own (Some s) = (s.start ≡ slice_index own 0) × (s.end ≡ slice_index ow
 Kept own None = slice_index own 1 ≡ 0
 
 abbrev pub KeyWithin : List ℕ → Option KeySpan → Type 0
-KeyWithin bs (Some s) = (s.start ≤ s.end) × (s.end ≤ length bs)
-KeyWithin bs None = Unit {0}
+KeyWithin bs last = IfSome last (λ s. (s.start ≤ s.end) × (s.end ≤ length bs))
 
 -- whether the key from one place to another comes after it
 abbrev pub AfterLast : List ℕ → Option KeySpan → ℕ → ℕ → Bool → Type 0

@@ -1,8 +1,8 @@
 // The keys of a map, each after the last.
+ghost use Rattle.std.proofs.Props.{props};
 ghost use Rattle.std.specs.Prelude.{◌≤◌, length, IfOk};
 ghost use Rattle.checker.specs.Keys.{AfterLast, Kept, KeyTold, KeyWithin, Misplaced, OddOf, OddWith, Refused};
 
-use crate::input::Input;
 use crate::{FRAME, Stop};
 use items::comparing::{Comparison, compare};
 use reach::measure;
@@ -26,18 +26,6 @@ pub(crate) fn last_key(own: [u64; FRAME]) -> Option<KeySpan>
     })
 }
 
-// Whether a whole key is after the last one, if there is one.
-fn comes_after(bytes: &[u8], last: Option<KeySpan>, at: usize, end: usize) -> bool
-    requires at_le_end { (at ≤ end) × (end ≤ length bytes.now) }
-    requires key_within { KeyWithin bytes.now last }
-    ensures { AfterLast bytes.now last at end result }
-{
-    let Some(last) = last else {
-        return true;
-    };
-    bytes[last.start..last.end] < bytes[at..end]
-}
-
 // The first place at which a key is at odds with as much of the last one as it can pass.
 fn odd_place(reached: &[u8], key: &[u8]) -> Option<usize>
     ensures { OddOf reached.now key.now result }
@@ -49,52 +37,68 @@ fn odd_place(reached: &[u8], key: &[u8]) -> Option<usize>
     }
 }
 
-// The first place at which the bytes from one on are at odds with the last key, if there is one.
-fn odd_with(input: Input<'_>, last: Option<KeySpan>, depth: u8, at: usize) -> Option<usize>
-    ensures { OddWith input.entry.bytes.now depth last at result }
-{
-    let bytes = input.bytes;
-    let start = last?.start;
-    let reach = measure(bytes, start, depth)?.reach;
-    let index = odd_place(&bytes[start..start + reach], bytes.get(at..)?)?;
-    Some(at + index)
+// A key that is to come after the last one of its map, if there is one, and where it stands, so deep.
+#[derive(Clone, Copy)]
+pub(crate) struct NextKey<'a> {
+    pub(crate) bytes: &'a [u8],
+    pub(crate) last: Option<KeySpan>,
+    pub(crate) depth: u8,
+    pub(crate) at: usize,
+    ghost last_within: { KeyWithin bytes.now last } by { Prim.hlevel props },
+    ghost at_in_bounds: { at ≤ length bytes.now },
 }
 
-// Why a key that stops is refused: the earlier of its own stop and where it is at odds with the last one.
-fn stop_of(input: Input<'_>, last: Option<KeySpan>, depth: u8, at: usize, stop: Stop) -> Stop
-    ensures { Refused input.entry.bytes.now depth last at stop result }
-{
-    let Some(odd) = odd_with(input, last, depth, at) else {
-        return stop;
-    };
-    match stop {
-        Stop::Cut => Stop::Wrong(odd),
-        Stop::Wrong(own) => Stop::Wrong(own.min(odd)),
+impl NextKey<'_> {
+    // Whether the whole key comes after the last one.
+    fn comes_after(self, end: usize) -> bool
+        requires { (self.at ≤ end) × (end ≤ length self.bytes.now) }
+        ensures { AfterLast self.entry.bytes.now self.entry.last self.entry.at end result }
+    {
+        let Some(last) = self.last else {
+            return true;
+        };
+        self.bytes[last.start..last.end] < self.bytes[self.at..end]
     }
-}
 
-// Where a whole key that does not come after the last one is refused.
-fn misplaced_at(input: Input<'_>, last: Option<KeySpan>, depth: u8, at: usize) -> usize
-    ensures { Misplaced input.entry.bytes.now depth last at result }
-{
-    odd_with(input, last, depth, at).unwrap_or(at)
-}
+    // The first place at which it is at odds with the last one.
+    fn odd(self) -> Option<usize>
+        ensures { OddWith self.entry.bytes.now self.entry.depth self.entry.last self.entry.at result }
+    {
+        let start = self.last?.start;
+        let reach = measure(self.bytes, start, self.depth)?.reach;
+        let index = odd_place(&self.bytes[start..start + reach], &self.bytes[self.at..])?;
+        Some(self.at + index)
+    }
 
-// Where a key ends that comes after the last one, by what is told of it whatever the last one is.
-pub(crate) fn key_end(
-    input: Input<'_>,
-    last: Option<KeySpan>,
-    depth: u8,
-    at: usize,
-    told: Result<usize, Stop>,
-) -> Result<usize, Stop>
-    requires end_in_bounds { IfOk told (λ end. (at ≤ end) × (end ≤ length input.bytes.now)) }
-    requires key_within { KeyWithin input.bytes.now last }
-    ensures { KeyTold input.entry.bytes.now depth last at told result }
-{
-    match told {
-        Ok(end) if comes_after(input.bytes, last, at, end) => Ok(end),
-        Ok(_) => Err(Stop::Wrong(misplaced_at(input, last, depth, at))),
-        Err(stop) => Err(stop_of(input, last, depth, at, stop)),
+    // Why a key that stops is refused: the earlier of its own stop and where it is at odds with the last one.
+    fn stop(self, stop: Stop) -> Stop
+        ensures { Refused self.entry.bytes.now self.entry.depth self.entry.last self.entry.at stop result }
+    {
+        let Some(odd) = self.odd() else {
+            return stop;
+        };
+        match stop {
+            Stop::Cut => Stop::Wrong(odd),
+            Stop::Wrong(own) => Stop::Wrong(own.min(odd)),
+        }
+    }
+
+    // Where a whole key that does not come after the last one is refused.
+    fn misplaced(self) -> usize
+        ensures { Misplaced self.entry.bytes.now self.entry.depth self.entry.last self.entry.at result }
+    {
+        self.odd().unwrap_or(self.at)
+    }
+
+    // Where it ends if it comes after the last one, by what is told of it whatever the last one is.
+    pub(crate) fn end(self, told: Result<usize, Stop>) -> Result<usize, Stop>
+        requires { IfOk told (λ end. (self.at ≤ end) × (end ≤ length self.bytes.now)) }
+        ensures { KeyTold self.entry.bytes.now self.entry.depth self.entry.last self.entry.at told result }
+    {
+        match told {
+            Ok(end) if self.comes_after(end) => Ok(end),
+            Ok(_) => Err(Stop::Wrong(self.misplaced())),
+            Err(stop) => Err(self.stop(stop)),
+        }
     }
 }

@@ -9,7 +9,7 @@ ghost use Rattle.checker.specs.Ends.{Ends};
 
 use crate::heads::head_of;
 use crate::input::Input;
-use crate::keys::{key_end, last_key};
+use crate::keys::{NextKey, last_key};
 use crate::{FRAME, Stop};
 use cbor::Major;
 use cbor::reading::bytes_end;
@@ -102,9 +102,14 @@ fn walk_entries(
     *own = [0, 0];
     let mut next = at;
     for left in (0..count).rev() {
-        let last = last_key(*own);
-        let key = walk(input, next, depth, left, rest);
-        let end = key_end(input, last, depth, next, key)?;
+        let key = NextKey {
+            bytes: input.bytes,
+            last: last_key(*own),
+            depth,
+            at: next,
+        };
+        let walked = walk(input, next, depth, left, rest);
+        let end = key.end(walked)?;
         *own = [next as u64, end as u64];
         next = walk(input, end, depth, 0, rest)?;
     }

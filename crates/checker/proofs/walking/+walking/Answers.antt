@@ -29,25 +29,24 @@ walk-returns-in-Tag t c = item_tag c.args.input.bytes.now c.args.at c.args.depth
 pub walk-returns-in-Unsigned : goal.walk-returns-in-Unsigned
 walk-returns-in-Unsigned t c = item_plain c.args.input.bytes.now c.args.at c.args.depth c.args.demand c.in_ok-head.head c.in_ok-head.ensures.told c.in-Unsigned.is
 
-pub walk_entries-key_end-requires : goal.walk_entries-key_end-requires
-walk_entries-key_end-requires t c =
-    record {
-      end_in_bounds = ends_within c.args.input.bytes.now c.loop-left.next c.walk-key.result _ c.walk-key.ensures;
-      key_within = (c.loop-left.invariant.2 c.last_key-last.result c.last_key-last.ensures).within;
-    }
+pub walk_entries-invariant_of-key-clause-last_within : goal.walk_entries-invariant_of-key-clause-last_within
+walk_entries-invariant_of-key-clause-last_within t c = (c.loop-left.invariant.2 c.last_key.result c.last_key.ensures).within
+
+pub walk_entries-end-requires : goal.walk_entries-end-requires
+walk_entries-end-requires t c = ends_within c.args.input.bytes.now c.loop-left.next c.walk-walked.result _ c.walk-walked.ensures
 
 pub walk_entries-returns-in_err-end : goal.walk_entries-returns-in_err-end
 walk_entries-returns-in_err-end t c =
     let p = err_from_is_err_and c.from_residual.result c.from_residual.ensures.1 in
-    rw (p.1, p.2) (key_refused (c.loop-left.invariant.2 c.last_key-last.result c.last_key-last.ensures) (omega arith) c.args.input.few c.args.input.below_256 (omega arith) c.walk-key.result c.walk-key.ensures c.in_err-end.field-0.0 c.in_err-end.ensures)
+    rw (p.1, p.2) (key_refused (c.loop-left.invariant.2 c.last_key.result c.last_key.ensures) (omega arith) c.args.input.few c.args.input.below_256 (omega arith) c.walk-walked.result c.walk-walked.ensures c.in_err-end.field-0.0 c.in_err-end.ensures)
 
 pub walk_entries-returns-in_err-next : goal.walk_entries-returns-in_err-next
 walk_entries-returns-in_err-next t c =
     let p = err_from_is_err_and c.from_residual-in_err-next.result c.from_residual-in_err-next.ensures.1 in
-    rw (p.1, p.2) (value_stop (c.loop-left.invariant.2 c.last_key-last.result c.last_key-last.ensures) (omega arith) c.args.input.few c.args.input.below_256 (omega arith) c.walk-key.result c.walk-key.ensures c.in_ok-end.end c.in_ok-end.ensures c.in_err-next.field-0.0 c.in_err-next.ensures)
+    rw (p.1, p.2) (value_stop (c.loop-left.invariant.2 c.last_key.result c.last_key.ensures) (omega arith) c.args.input.few c.args.input.below_256 (omega arith) c.walk-walked.result c.walk-walked.ensures c.in_ok-end.end c.in_ok-end.ensures c.in_err-next.field-0.0 c.in_err-next.ensures)
 
 pub walk_entries-loop-left-preserved : goal.walk_entries-loop-left-preserved
-walk_entries-loop-left-preserved t c = (c.in_ok-next.ensures.1.1, omega arith, entry_step (c.loop-left.invariant.2 c.last_key-last.result c.last_key-last.ensures) (omega arith) c.args.input.few c.args.input.below_256 (omega arith) c.walk-key.result c.walk-key.ensures c.in_ok-end.end c.in_ok-end.ensures c.in_ok-next.next c.in_ok-next.ensures)
+walk_entries-loop-left-preserved t c = (c.in_ok-next.ensures.1.1, omega arith, entry_step (c.loop-left.invariant.2 c.last_key.result c.last_key.ensures) (omega arith) c.args.input.few c.args.input.below_256 (omega arith) c.walk-walked.result c.walk-walked.ensures c.in_ok-end.end c.in_ok-end.ensures c.in_ok-next.next c.in_ok-next.ensures)
 
 pub walk_entries-returns : goal.walk_entries-returns
 walk_entries-returns t c = entries_none c.args.input.bytes.now c.args.depth c.loop-left.next c.loop-left.left c.args.at c.args.count c.loop-left.own c.loop-left.invariant.2 (omega arith) c.loop-left.invariant.0
