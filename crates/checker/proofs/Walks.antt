@@ -20,9 +20,9 @@ unfolding walk
 walk_is zero r q = refl
 walk_is (suc d) r q = refl
 
-inner_is : (d : ℕ) → 0 < d → inner d ≡ walk (d - 1)
-inner_is zero h = absurd (omega arith)
-inner_is (suc d) h = let z : suc d - 1 ≡ d = omega arith in rw z
+inner_is : (d n : ℕ) → 0 < d → n ≡ d - 1 → inner d ≡ walk n
+inner_is zero n h e = absurd (omega arith)
+inner_is (suc d) n h e = let z : n ≡ d = omega arith in rw z
 
 pub item_stop : (bs : List ℕ) (at d r : ℕ) (s : Stop) → Stops at s (walk_head d r (drop at bs)) → Stops at s (walk d r (drop at bs))
 item_stop bs at d r s h = rw (walk_is d r (drop at bs)) (stop_ends at (walk_head d r (drop at bs)) _ s h)
@@ -47,16 +47,16 @@ module _ (bs : List ℕ) (at d r : ℕ) (h : ItemHead) (is : Headed bs at (Ok h)
   pub item_text : h.major ≡ Text → (x : Result ℕ Stop) → Ends bs h.next x (walk_text h.argument h.argument (drop h.next bs)) → Ends bs at x (walk d r (drop at bs))
   item_text e x g = item_on Text e x (retold_ends (λ m. (m, 0)) bs h.next (walk_text h.argument h.argument (drop h.next bs)) x g)
 
-  pub item_array : h.major ≡ Array → Deep d h.major → (x : Result ℕ Stop) → Ends bs h.next x (walk_many (walk (d - 1) 0) h.argument (drop h.next bs)) → Ends bs at x (walk d r (drop at bs))
-  item_array e l x g = item_on Array e x (rw (inner_is d (deep Array e l (omega arith) (omega arith))) (retold_ends (λ m. (m, 0)) bs h.next (walk_many (walk (d - 1) 0) h.argument (drop h.next bs)) x g))
+  pub item_array : h.major ≡ Array → Deep d h.major → (n : ℕ) → n ≡ d - 1 → (x : Result ℕ Stop) → Ends bs h.next x (walk_many (walk n 0) h.argument (drop h.next bs)) → Ends bs at x (walk d r (drop at bs))
+  item_array e l n f x g = item_on Array e x (rw (inner_is d n (deep Array e l (omega arith) (omega arith)) f) (retold_ends (λ m. (m, 0)) bs h.next (walk_many (walk n 0) h.argument (drop h.next bs)) x g))
 
-  pub item_map : h.major ≡ Map → Deep d h.major → (x : Result ℕ Stop) → Ends bs h.next x (walk_pairs (walk (d - 1)) h.argument [] (drop h.next bs)) → Ends bs at x (walk d r (drop at bs))
-  item_map e l x g = item_on Map e x (rw (inner_is d (deep Map e l (omega arith) (omega arith))) (retold_ends (λ m. (m, 0)) bs h.next (walk_pairs (walk (d - 1)) h.argument [] (drop h.next bs)) x g))
+  pub item_map : h.major ≡ Map → Deep d h.major → (n : ℕ) → n ≡ d - 1 → (x : Result ℕ Stop) → Ends bs h.next x (walk_pairs (walk n) h.argument [] (drop h.next bs)) → Ends bs at x (walk d r (drop at bs))
+  item_map e l n f x g = item_on Map e x (rw (inner_is d n (deep Map e l (omega arith) (omega arith)) f) (retold_ends (λ m. (m, 0)) bs h.next (walk_pairs (walk n) h.argument [] (drop h.next bs)) x g))
 
-  pub item_tag : h.major ≡ Tag → Deep d h.major → (s : ℕ) → s ≡ cond (eqb h.argument 18446744073709551615) (r - 248) 0 → (x : Result ℕ Stop) → Ends bs h.next x (walk (d - 1) s (drop h.next bs)) → Ends bs at x (walk d r (drop at bs))
-  item_tag e l s q x g = elim (cases_eq h.argument 18446744073709551615) [
-    | inl k ↦ item_on Tag e x (rw (inner_is d (deep Tag e l (omega arith) (omega arith)), eq-eqb h.argument 18446744073709551615 k) (subst (λ s. Ends bs h.next x (walk (d - 1) s (drop h.next bs))) (q ∙ rw (eq-eqb h.argument 18446744073709551615 k)) g))
-    | inr k ↦ item_on Tag e x (rw (inner_is d (deep Tag e l (omega arith) (omega arith)), ne_eqb h.argument 18446744073709551615 k) (subst (λ s. Ends bs h.next x (walk (d - 1) s (drop h.next bs))) (q ∙ rw (ne_eqb h.argument 18446744073709551615 k)) g))
+  pub item_tag : h.major ≡ Tag → Deep d h.major → (n : ℕ) → n ≡ d - 1 → (s : ℕ) → s ≡ cond (eqb h.argument 18446744073709551615) (r - 248) 0 → (x : Result ℕ Stop) → Ends bs h.next x (walk n s (drop h.next bs)) → Ends bs at x (walk d r (drop at bs))
+  item_tag e l n f s q x g = elim (cases_eq h.argument 18446744073709551615) [
+    | inl k ↦ item_on Tag e x (rw (inner_is d n (deep Tag e l (omega arith) (omega arith)) f, eq-eqb h.argument 18446744073709551615 k) (subst (λ s. Ends bs h.next x (walk n s (drop h.next bs))) (q ∙ rw (eq-eqb h.argument 18446744073709551615 k)) g))
+    | inr k ↦ item_on Tag e x (rw (inner_is d n (deep Tag e l (omega arith) (omega arith)) f, ne_eqb h.argument 18446744073709551615 k) (subst (λ s. Ends bs h.next x (walk n s (drop h.next bs))) (q ∙ rw (ne_eqb h.argument 18446744073709551615 k)) g))
   ]
 
   none_ends : Ends bs h.next (Ok h.next) (plain (drop h.next bs))

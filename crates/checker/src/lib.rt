@@ -21,7 +21,7 @@ mod walking;
 pub const FRAME: usize = 2;
 
 // How many numbers are lent for all the maps that may be in one another.
-pub const LENT: usize = 64;
+pub const LENT: usize = FRAME * DEPTH as usize;
 
 pub use cbor::TOO_MANY_BYTES;
 
@@ -86,15 +86,15 @@ impl From<Stop> for Verdict {
 pub fn check(bytes: &[u8], lent: &mut [u64]) -> Result<Verdict, NotChecked>
     ensures { Checked bytes.now lent.old result }
 {
-    if lent.len() < LENT {
+    let Some(lent) = lent.get_mut(..LENT) else {
         return Err(NotChecked::TooLittleLent);
-    }
+    };
     if bytes.len() >= TOO_MANY_BYTES {
         return Err(NotChecked::TooManyBytes);
     }
     let input = Input { bytes };
     let (frames, _) = lent.as_chunks_mut::<FRAME>();
-    match walk(input, 0, DEPTH, 0, frames) {
+    match walk(input, 0, 0, frames) {
         Ok(end) if end < bytes.len() => Ok(Verdict::Wrong(end)),
         Ok(_) => Ok(Verdict::Complete),
         Err(stop) => Ok(stop.into()),

@@ -1,8 +1,7 @@
 // The walk over an item: where it ends, or why it stops before.
 //
 // Places stay plain: public functions take any place and hand back plain ends, so a place with its fact in its type would be made and taken
-// apart at each call. Nor are place, depth and frames one struct: the place moves on, the depth, which reach measures by as a u8, falls, and
-// the frames are handed on by &mut.
+// apart at each call. Nor are place and frames one struct: the place moves on, and the frames are handed on by &mut.
 ghost use Rattle.std.specs.Prelude.{◌≡◌, ◌-◌, ◌<◌, ◌≤◌, [], length, drop, if◌then◌else◌, nat_eq};
 ghost use Rattle.prefixes.specs.Walks.{walk_text, walk_many, walk_pairs, walk as told};
 ghost use Rattle.checker.specs.Ends.{Ends};
@@ -36,30 +35,28 @@ fn demand_in(number: u64, demand: u64) -> u64
     }
 }
 
-// An item, of which so many more keys have to come after it, so deep.
+// An item, of which so many more keys have to come after it. There is a frame for each array, map or tag that may still be gone into.
 #[cycle(walking)]
 pub(crate) fn walk(
     input: Input<'_>,
     at: usize,
-    depth: u8,
     demand: u64,
     frames: &mut [[u64; FRAME]],
 ) -> Result<usize, Stop>
-    requires { depth ≤ length frames.old }
-    ensures { Ends input.entry.bytes.now at result (told depth demand (drop at input.entry.bytes.now)) }
+    requires { length frames.old < 256 }
+    ensures { Ends input.entry.bytes.now at result (told (length frames.old) demand (drop at input.entry.bytes.now)) }
 {
-    let head = head_of(input.bytes, at, depth, demand)?;
+    let head = head_of(input.bytes, at, frames.len() as u8, demand)?;
     match head.major {
         Major::Bytes => bytes_end(input.bytes, head.next, head.argument).ok_or(Stop::Cut),
         Major::Text => text_end(input.bytes, head.next, head.argument),
-        Major::Array => walk_items(input, head.next, head.argument, depth - 1, frames),
-        Major::Map => walk_entries(input, head.next, head.argument, depth - 1, frames),
+        Major::Array => walk_items(input, head.next, head.argument, &mut frames[1..]),
+        Major::Map => walk_entries(input, head.next, head.argument, frames),
         Major::Tag => walk(
             input,
             head.next,
-            depth - 1,
             demand_in(head.argument, demand),
-            frames,
+            &mut frames[1..],
         ),
         Major::Unsigned | Major::Negative | Major::Simple => Ok(head.next),
     }
@@ -71,16 +68,15 @@ fn walk_items(
     input: Input<'_>,
     at: usize,
     count: u64,
-    depth: u8,
     frames: &mut [[u64; FRAME]],
 ) -> Result<usize, Stop>
     requires at_in_bounds { at ≤ length input.bytes.now }
-    requires depth_in_bounds { depth ≤ length frames.old }
-    ensures { Ends input.entry.bytes.now at result (walk_many (told depth 0) count (drop at input.entry.bytes.now)) }
+    requires few { length frames.old < 256 }
+    ensures { Ends input.entry.bytes.now at result (walk_many (told (length frames.old) 0) count (drop at input.entry.bytes.now)) }
 {
     let mut next = at;
     for _ in 0..count {
-        next = walk(input, next, depth, 0, frames)?;
+        next = walk(input, next, 0, frames)?;
     }
     Ok(next)
 }
@@ -91,27 +87,27 @@ fn walk_entries(
     input: Input<'_>,
     at: usize,
     count: u64,
-    depth: u8,
     frames: &mut [[u64; FRAME]],
 ) -> Result<usize, Stop>
     requires at_in_bounds { at ≤ length input.bytes.now }
-    requires depth_in_bounds { depth < length frames.old }
-    ensures { Ends input.entry.bytes.now at result (walk_pairs (told depth) count [] (drop at input.entry.bytes.now)) }
+    requires some { 0 < length frames.old }
+    requires few { length frames.old < 256 }
+    ensures { Ends input.entry.bytes.now at result (walk_pairs (told (length frames.old - 1)) count [] (drop at input.entry.bytes.now)) }
 {
-    let (own, rest) = frames.split_first_mut().unwrap();
+    let (own, inner) = frames.split_first_mut().unwrap();
     *own = [0, 0];
     let mut next = at;
     for left in (0..count).rev() {
         let key = NextKey {
             bytes: input.bytes,
             last: last_key(*own),
-            depth,
+            depth: inner.len() as u8,
             at: next,
         };
-        let walked = walk(input, next, depth, left, rest);
+        let walked = walk(input, next, left, inner);
         let end = key.end(walked)?;
         *own = [next as u64, end as u64];
-        next = walk(input, end, depth, 0, rest)?;
+        next = walk(input, end, 0, inner)?;
     }
     Ok(next)
 }
