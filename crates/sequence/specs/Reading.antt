@@ -6,6 +6,7 @@ use Rattle.cbor.specs.declared.reading.Stop.{Stop}
 use Rattle.cbor.specs.Prefix.{Any, StandsAt}
 use Rattle.cbor.specs.Reading.{Stopped}
 use Rattle.sequence.specs.declared.reading.Parsed.{Parsed}
+use Rattle.sequence.specs.declared.reading.Reader.{Reader}
 use Rattle.sequence.specs.Token.{Token, num, str, spell, Shape, string, TokenOf}
 use Rattle.sequence.specs.Grammar.{Grammar, Completes}
 
@@ -28,3 +29,12 @@ SpelledAt ts bs at end = StandsAt (λ w. w ≡ spell ts) bs at end
 -- bytes cease to begin what is pending
 abbrev pub PendingStops : {S : Type 0} → Grammar S → List S → List ℕ → ℕ → Stop → Type 0
 PendingStops G ss bs at stop = Stopped (Any (Completes G ss)) bs at stop
+
+abbrev pub NumberThere : Shape → List ℕ → ℕ → Result (Parsed ℕ) Stop → Type 0
+NumberThere s bs at (Ok x) = TokenAt s (num x.value) bs at x.next
+NumberThere s bs at (Err stop) = Stopped (Any (TokenOf s)) bs at stop
+
+-- what a reader reads where it is, and it is then behind that
+abbrev pub Reads : {T : Type 0} → (List ℕ → ℕ → Result (Parsed T) Stop → Type 0) → Reader → Reader → Result T Stop → Type 0
+Reads P old new (Ok x) = (new.bytes ≡ old.bytes) × P old.bytes.now old.at (Ok (record { value = x; next = new.at }))
+Reads P old new (Err stop) = P old.bytes.now old.at (Err stop)
