@@ -5,7 +5,7 @@ use Rattle.cbor.specs.declared.reading.Stop.{Stop}
 use Rattle.cbor.specs.Prefix.{Any, Stops}
 use Rattle.cbor.specs.Reading.{Stopped}
 use Rattle.sequence.specs.Token.{num, str, spell, ByteString, opcode, number, TokenOf}
-use Rattle.sequence.specs.Reading.{TokenAt, SpelledAt, PendingStops}
+use Rattle.sequence.specs.Reading.{TokenAt, TokenRead, SpelledAt, PendingStops}
 use Rattle.request.specs.declared.reading.Step.{Step as LentStep}
 use Rattle.request.specs.declared.reading.Step.TheVariants.{Index, Key, Content}
 use Rattle.request.specs.declared.reading.Path.{Path}
@@ -34,8 +34,7 @@ kind_number KindFind = 1
 kind_number KindFit = 2
 
 abbrev pub KindAt : {K : Type 0} → (K → ℕ) → List ℕ → ℕ → Result (Parsed K) Stop → Type 0
-KindAt number_of bs at (Ok x) = TokenAt (opcode 2) (num (number_of x.value)) bs at x.next
-KindAt number_of bs at (Err s) = Stopped (Any (TokenOf (opcode 2))) bs at s
+KindAt number_of bs at r = TokenRead (opcode 2) (λ k. num (number_of k)) bs at r
 
 -- a step, a path and a request, as parts of the lent bytes, stand for what is asked
 abbrev pub step_of : LentStep → Step

@@ -1,7 +1,7 @@
 // Tokens read from lent bytes, with the place where there is none.
 ghost use Rattle.std.specs.Prelude.{◌≡◌, OnErr};
-ghost use Rattle.sequence.specs.Token.{opcode, number};
-ghost use Rattle.sequence.specs.Reading.{NumberAt, StringAt, Reads, NumberThere};
+ghost use Rattle.sequence.specs.Token.{num, opcode, number};
+ghost use Rattle.sequence.specs.Reading.{NumberAt, StringAt, TokenRead, Reads};
 
 use cbor::Major;
 use cbor::reading::{Head, Stop, bytes_end, read_head};
@@ -75,7 +75,7 @@ pub struct Reader<'a> {
 
 impl<'a> Reader<'a> {
     pub fn opcode(&mut self, last: u8) -> Result<u64, Stop>
-        ensures told { Reads (NumberThere (opcode last)) self.old self.new result }
+        ensures told { Reads (TokenRead (opcode last) num) self.old self.new result }
         ensures kept { OnErr result (self.new ≡ self.old) }
     {
         let opcode = read_opcode(self.bytes, self.at, last)?;
@@ -84,7 +84,7 @@ impl<'a> Reader<'a> {
     }
 
     pub fn number(&mut self) -> Result<u64, Stop>
-        ensures told { Reads (NumberThere number) self.old self.new result }
+        ensures told { Reads (TokenRead number num) self.old self.new result }
         ensures kept { OnErr result (self.new ≡ self.old) }
     {
         let number = read_number(self.bytes, self.at)?;
