@@ -22,15 +22,6 @@ use Rattle.request.specs.Grammar.{Sort, a_request, a_path, a_step, a_string, sha
 use Rattle.request.specs.Reading.{kind_number, Means, StepAt, PathAt, CountedPathAt, RequestFrom, RequestAt, ReadsBack, RulesThere, RulesIn}
 use Rattle.request.proofs.Requests.{completable, step_takes, path_takes, stops_request, one_way}
 
--- what is handed on where reading stops
-pub handed_on : {T : Type 0} (P : Result T Stop → Type 0) (r : Result T Stop) (s : Stop) → IsErrAnd r (λ x. x ≡ s) → P (Err s) → P r
-handed_on P (Ok x) s e h = absurd e
-handed_on P (Err x) s e h = rw e h
-
--- and where a reader stops
-pub stopped : {T : Type 0} (P : List ℕ → ℕ → Result (Parsed T) Stop → Type 0) (old new : Reader) (r : Result T Stop) (s : Stop) → IsErrAnd r (λ x. x ≡ s) → P old.bytes.now old.at (Err s) → Reads P old new r
-stopped P old new r s e h = handed_on (λ r. Reads P old new r) r s e h
-
 -- what is told of a result, by its `ok`
 pub told_ok : {T : Type 0} (P : Result T Stop → Type 0) (r : Result T Stop) (x : T) → Some x ≡ result_ok r → P r → P (Ok x)
 told_ok P (Ok y) x e h = let z : x ≡ y = cc in rw z h

@@ -1,10 +1,11 @@
 use Rattle.std.proofs.Common.{[], ◌∷◌}
 use Rattle.sequence.specs.Token.{num, str}
 use Rattle.sequence.proofs.Grammars.{stop_first, stop_later}
+use Rattle.sequence.proofs.Readers.{stopped}
 use Rattle.request.specs.Grammar.{requests, a_request, a_number, a_string}
 use Rattle.request.specs.Reading.{RequestFrom}
 use Rattle.request.proofs.Requests.{completable}
-use Rattle.request.proofs.Places.{stopped, check_there, find_item_stops, find_there, fit_there}
+use Rattle.request.proofs.Places.{check_there, find_item_stops, find_there, fit_there}
 use Rattle.request.proofs.reading.next_request.Goals as goal
 
 pub returns-in_err-read_kind : goal.returns-in_err-read_kind

@@ -1,10 +1,11 @@
 use Rattle.std.proofs.Common.{refl}
 use Rattle.sequence.specs.Token.{opcode, number, string}
 use Rattle.sequence.proofs.Grammars.{stop_first, spelled_one, spelled_two}
+use Rattle.sequence.proofs.Readers.{stopped}
 use Rattle.request.specs.Grammar.{requests, a_step, a_number, a_string}
 use Rattle.request.specs.Reading.{StepAt}
 use Rattle.request.proofs.Requests.{completable}
-use Rattle.request.proofs.Places.{stopped, step_stops}
+use Rattle.request.proofs.Places.{step_stops}
 use Rattle.request.proofs.reading.next_step.Goals as goal
 
 pub returns-in_err-read_kind : goal.returns-in_err-read_kind

@@ -1,9 +1,10 @@
 use Rattle.std.proofs.Common.{◌≡◌, ◌-◌, Ok, Err, refl, ◌∙◌, subst, arith}
 use Rattle.sequence.proofs.Grammars.{stop_first}
+use Rattle.sequence.proofs.Readers.{stopped}
 use Rattle.request.specs.Grammar.{requests, a_path}
 use Rattle.request.specs.Reading.{PathAt, CountedPathAt, step_of}
 use Rattle.request.proofs.Requests.{completable}
-use Rattle.request.proofs.Places.{stopped, path_none, path_more, path_stop, counted_path_stops}
+use Rattle.request.proofs.Places.{path_none, path_more, path_stop, counted_path_stops}
 use Rattle.request.proofs.reading.read_path.Goals as goal
 
 pub returns-in_err-count : goal.returns-in_err-count

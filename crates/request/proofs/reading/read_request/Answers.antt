@@ -1,6 +1,7 @@
 use Rattle.std.proofs.Common.{Ok, Err}
+use Rattle.sequence.proofs.Readers.{handed_on}
 use Rattle.request.specs.Reading.{RequestAt}
-use Rattle.request.proofs.Places.{handed_on, whole, reads_back}
+use Rattle.request.proofs.Places.{whole, reads_back}
 use Rattle.request.proofs.reading.read_request.Goals as goal
 
 pub returns-in_err-value : goal.returns-in_err-value

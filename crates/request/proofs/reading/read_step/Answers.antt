@@ -1,5 +1,5 @@
+use Rattle.sequence.proofs.Readers.{handed_on}
 use Rattle.request.specs.Reading.{StepAt}
-use Rattle.request.proofs.Places.{handed_on}
 use Rattle.request.proofs.reading.read_step.Goals as goal
 
 pub returns-in_err-value : goal.returns-in_err-value
