@@ -1,26 +1,22 @@
 -- Nodes at places of lent bytes.
-use Rattle.std.proofs.Common.{◌≡◌, ℕ, ◌-◌, ◌<◌, ◌≤◌, List, [], ◌∷◌, ◌++◌, length, take, drop, Ok, Err, Result, sym, refl, ap, ◌∙◌, subst, inl, inr, arith, Bor}
+use Rattle.std.proofs.Common.{◌≡◌, ℕ, ◌-◌, ◌<◌, ◌≤◌, List, [], ◌∷◌, ◌++◌, length, take, drop, Ok, Err, Result, sym, refl, ap, ◌∙◌, subst, inr, arith}
 use Rattle.std.specs.Result.{IsErrAnd}
 use Rattle.cbor.specs.declared.reading.Stop.{Stop}
 use Rattle.cbor.specs.Prefix.{Any}
 use Rattle.cbor.specs.Reading.{Stopped}
 use Rattle.cbor.proofs.Words.{stops_same}
 use Rattle.cbor.proofs.Places.{part_length}
-use Rattle.sequence.specs.Token.{Token, num, str, spell, Shape, number, string, Suits, Word, TokenOf}
-use Rattle.sequence.specs.Grammar.{next, Takes, Completes, many}
+use Rattle.sequence.specs.Token.{Token, num, spell, number, TokenOf}
+use Rattle.sequence.specs.Grammar.{next, Takes, Completes}
 use Rattle.sequence.specs.declared.reading.Parsed.{Parsed}
 use Rattle.sequence.specs.declared.reading.Reader.{Reader}
 use Rattle.sequence.specs.Reading.{TokenAt, TokenRead, SpelledAt, Reads}
 use Rattle.sequence.proofs.Grammars.{spelled_one, spelled_append, stop_first, stop_later, none_stands, same_token}
 use Rattle.sequence.proofs.Readers.{stopped}
-use Rattle.schema.specs.declared.nodes.Schema.{Schema}
-use Rattle.schema.specs.declared.nodes.Schema.TheVariants.{Literal}
-use Rattle.schema.specs.declared.nodes.Group.TheVariants.{Repeat}
-use Rattle.schema.specs.declared.nodes.Field.{Field}
 use Rattle.schema.specs.declared.nodes.Node.{Node}
 use Rattle.schema.specs.declared.nodes.Node.TheVariants.{OfSchema, OfGroup, OfField}
-use Rattle.schema.specs.Grammar.{Sort, a_rule, a_schema, a_group, a_field, a_bound, a_last, a_literal, shape, after, after_schema, after_field, grammar}
-use Rattle.schema.specs.Nodes.{schema_own, inner_of_schema, field_own, inner_of_field, own_tokens, inside}
+use Rattle.schema.specs.Grammar.{Sort, a_rule, a_schema, a_bound, a_last, shape, after, grammar}
+use Rattle.schema.specs.Nodes.{own_tokens, inside}
 use Rattle.schema.specs.Reading.{MadeAt, RangedAt, OfSort, Opens, Whole, Stuck, Ceases, RestAt, NodeAt}
 use Rattle.schema.proofs.Trees.{completable, as_rule, as_schema}
 
@@ -59,30 +55,22 @@ rest_none : (s : Sort) (n : ℕ) (x : Node) (bs : List ℕ) (mid : ℕ) → mid 
 unfolding Takes spell
 rest_none s n x bs mid h o e f = (o, [], e, (omega arith, h, ap (λ k. take k (drop mid bs)) (let z : mid - mid ≡ 0 = omega arith in z)), λ ss. ap (λ ys. ys ++ ss) f)
 
--- an opcode that is known
-opcode_is : (s : Shape) (n m : ℕ) (bs : List ℕ) (at mid : ℕ) → n ≡ m → TokenAt s (num n) bs at mid → TokenAt s (num m) bs at mid
-opcode_is s n m bs at mid e t = subst (λ k. TokenAt s (num k) bs at mid) e t
-
-node_after : (s : Sort) (n m : ℕ) (bs : List ℕ) (at mid : ℕ) (r : Result (Parsed Node) Stop) → n ≡ m → TokenAt (shape s) (num n) bs at mid → RestAt s m bs mid r → NodeAt s bs at r
-node_after s n m bs at mid r z t h = node_whole s m bs at mid r (opcode_is (shape s) n m bs at mid z t) h
-
 -- TWO NUMBERS
-
-pub range_first : (bs : List ℕ) (at : ℕ) (stop : Stop) → Stopped (Any (TokenOf number)) bs at stop → (ss : List Sort) → Ceases (a_bound ∷ a_last ∷ ss) bs at stop
-range_first bs at stop h ss = ceases_first a_bound (a_last ∷ ss) bs at stop h
 
 pub range_second : (bs : List ℕ) (at mid n : ℕ) (stop : Stop) → TokenAt number (num n) bs at mid → Stopped (Any (TokenOf number)) bs mid stop → (ss : List Sort) → Ceases (a_bound ∷ a_last ∷ ss) bs at stop
 range_second bs at mid n stop t h ss = ceases_later a_bound (a_last ∷ ss) (num n) bs at mid stop t (ceases_first a_last ss bs mid stop h) (λ w. w)
 
--- A READER
+-- AFTER AN OPCODE
 
 module _ {U : Type 0} (node_of : U → Node) (s : Sort) (n m : ℕ) (old mid : Reader) (z : n ≡ m) (opcode : Reads (TokenRead (shape s) num) old mid (Ok n)) where
-  -- after an opcode
+  opened : TokenAt (shape s) (num m) old.bytes.now old.at mid.at
+  opened = subst (λ k. TokenAt (shape s) (num k) old.bytes.now old.at mid.at) z opcode.1
+
   made_there : (new : Reader) (u : U) → new.bytes ≡ mid.bytes → RestAt s m old.bytes.now mid.at (Ok (record { value = node_of u; next = new.at })) → Reads (MadeAt node_of s) old new (Ok u)
-  made_there new u d h = (d ∙ opcode.0, node_after s n m old.bytes.now old.at mid.at (Ok (record { value = node_of u; next = new.at })) z opcode.1 h)
+  made_there new u d h = (d ∙ opcode.0, node_whole s m old.bytes.now old.at mid.at (Ok (record { value = node_of u; next = new.at })) opened h)
 
   made_stops : (new : Reader) (stop : Stop) → RestAt s m old.bytes.now mid.at (Err stop) → Reads (MadeAt node_of s) old new (Err stop)
-  made_stops new stop h = node_after s n m old.bytes.now old.at mid.at (Err stop) z opcode.1 h
+  made_stops new stop h = node_whole s m old.bytes.now old.at mid.at (Err stop) opened h
 
   pub node_bare : (u : U) → OfSort s (node_of u) → own_tokens (node_of u) ≡ num m ∷ [] → after s m ≡ inside (node_of u) → Reads (MadeAt node_of s) old mid (Ok u)
   node_bare u o f g = made_there mid u refl (rest_none s m (node_of u) old.bytes.now mid.at opcode.1.0.1 o f g)

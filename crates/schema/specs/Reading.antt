@@ -1,17 +1,12 @@
 -- What reading a node tells.
 use Rattle.std.specs.Prelude.{◌≡◌, ℕ, ◌<◌, ◌⊎◌, List, [], ◌∷◌, ◌++◌, Ok, Err, Result}
-use Rattle.std.specs.Borrow.{Bor}
 use Rattle.cbor.specs.declared.reading.Stop.{Stop}
-use Rattle.cbor.specs.Prefix.{Any}
-use Rattle.cbor.specs.Reading.{Stopped}
-use Rattle.sequence.specs.Token.{Token, num, str, number, string, Word, TokenOf}
+use Rattle.sequence.specs.Token.{Token, num, Word}
 use Rattle.sequence.specs.Grammar.{Takes}
 use Rattle.sequence.specs.declared.reading.Parsed.{Parsed}
-use Rattle.sequence.specs.Reading.{TokenAt, SpelledAt, PendingStops}
+use Rattle.sequence.specs.Reading.{SpelledAt, PendingStops}
 use Rattle.schema.specs.declared.nodes.Node.{Node}
 use Rattle.schema.specs.declared.nodes.Node.TheVariants.{OfSchema, OfGroup, OfField}
-use Rattle.schema.specs.declared.nodes.Schema.{Schema}
-use Rattle.schema.specs.declared.nodes.Field.{Field}
 use Rattle.schema.specs.Grammar.{Sort, the_rules, a_rule, a_schema, a_group, the_fields, a_field, a_bound, a_last, a_literal, after, grammar}
 use Rattle.schema.specs.Nodes.{own_tokens, inside}
 

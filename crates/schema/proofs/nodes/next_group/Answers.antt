@@ -1,14 +1,13 @@
-use Rattle.std.proofs.Common.{◌≡◌, ℕ, [], ◌∷◌, Ok, Err, refl, arith}
-use Rattle.sequence.specs.Token.{num, number}
+use Rattle.std.proofs.Common.{◌≡◌, [], ◌∷◌, Ok, Err, refl, arith}
+use Rattle.sequence.specs.Token.{number}
 use Rattle.sequence.specs.Grammar.{many}
 use Rattle.sequence.proofs.Grammars.{spelled_two}
 use Rattle.sequence.proofs.Readers.{stopped}
 use Rattle.schema.specs.declared.nodes.Node.TheVariants.{OfGroup}
-use Rattle.schema.specs.declared.nodes.Group.{Group}
 use Rattle.schema.specs.declared.nodes.Group.TheVariants.{Empty, One, Sequence, FirstOf, Repeat}
-use Rattle.schema.specs.Grammar.{a_group}
+use Rattle.schema.specs.Grammar.{a_group, a_bound, a_last}
 use Rattle.schema.specs.Reading.{MadeAt}
-use Rattle.schema.proofs.Places.{ceases_first, node_bare, node_ranged, range_first, range_second}
+use Rattle.schema.proofs.Places.{ceases_first, node_bare, node_ranged, range_second}
 use Rattle.schema.proofs.nodes.next_group.Goals as goal
 
 pub returns-in_err-opcode : goal.returns-in_err-opcode
@@ -32,7 +31,7 @@ returns-in-3 c = node_bare OfGroup a_group _ 3 _ _ c.in-3.is c.in_ok-opcode.ensu
 
 pub returns-in_err-low-in_default : goal.returns-in_err-low-in_default
 unfolding many
-returns-in_err-low-in_default c = stopped (MadeAt OfGroup a_group) _ _ _ _ c.from_residual-in_err-low-in_default.ensures.1 (node_ranged OfGroup a_group _ 4 _ _ (omega (arith, c.in_ok-opcode.ensures.told.1.0.2.1)) c.in_ok-opcode.ensures.told (a_group ∷ []) (λ lo hi u. u ≡ Repeat lo hi) c.opcode.new.self (Err c.in_err-low-in_default.field-0.0) (range_first _ _ _ c.in_err-low-in_default.ensures.told) refl (λ lo hi u e. rw e (refl, refl, refl)))
+returns-in_err-low-in_default c = stopped (MadeAt OfGroup a_group) _ _ _ _ c.from_residual-in_err-low-in_default.ensures.1 (node_ranged OfGroup a_group _ 4 _ _ (omega (arith, c.in_ok-opcode.ensures.told.1.0.2.1)) c.in_ok-opcode.ensures.told (a_group ∷ []) (λ lo hi u. u ≡ Repeat lo hi) c.opcode.new.self (Err c.in_err-low-in_default.field-0.0) (λ ss. ceases_first a_bound (a_last ∷ ss) _ _ _ c.in_err-low-in_default.ensures.told) refl (λ lo hi u e. rw e (refl, refl, refl)))
 
 pub returns-in_err-high-in_default : goal.returns-in_err-high-in_default
 unfolding many
