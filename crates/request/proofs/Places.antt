@@ -7,8 +7,8 @@ use Rattle.cbor.specs.Reading.{Stopped}
 use Rattle.cbor.proofs.Places.{part_length}
 use Rattle.std.proofs.lemmas.List.{take_at}
 use Rattle.sequence.specs.Token.{Token, num, str, spell, opcode, number, string, TokenOf}
-use Rattle.sequence.specs.Grammar.{next, Completes, many}
-use Rattle.sequence.specs.Reading.{TokenAt, SpelledAt, PendingStops}
+use Rattle.sequence.specs.Grammar.{Completes, many}
+use Rattle.sequence.specs.Reading.{TokenAt, SpelledAt, StringAt, PendingStops, Reads}
 use Rattle.sequence.proofs.Grammars.{spelled_one, spelled_append, spelled_two, stop_first, stop_later, stop_after, none_stands, same_token}
 use Rattle.request.specs.declared.reading.Path.{Path}
 use Rattle.request.specs.declared.reading.Request.{Request}
@@ -16,15 +16,11 @@ use Rattle.request.specs.declared.reading.Request.TheVariants.{Check, Find, Fit}
 use Rattle.request.specs.declared.reading.Kind.{Kind}
 use Rattle.request.specs.declared.reading.Kind.TheVariants.{Check as KindCheck, Find as KindFind}
 use Rattle.sequence.specs.declared.reading.Parsed.{Parsed}
+use Rattle.sequence.specs.declared.reading.Reader.{Reader}
 use Rattle.request.specs.Asked.{Step, Asked, check, find, fit, step_tokens, path_tokens, write, WritableStep, WritablePath}
 use Rattle.request.specs.Grammar.{Sort, a_request, a_path, a_step, a_string, shape, after_request, after_step, requests}
-use Rattle.request.specs.Reading.{kind_number, Means, StepAt, PathAt, CountedPathAt, RestAt, RequestAt, ReadsBack, RulesThere}
+use Rattle.request.specs.Reading.{kind_number, Means, StepAt, PathAt, CountedPathAt, RequestFrom, RequestAt, ReadsBack, RulesThere, RulesIn}
 use Rattle.request.proofs.Requests.{completable, step_takes, path_takes, stops_request, one_way}
-
--- what is handed on where reading stops
-pub handed_on : {T : Type 0} (P : Result T Stop → Type 0) (r : Result T Stop) (s : Stop) → IsErrAnd r (λ x. x ≡ s) → P (Err s) → P r
-handed_on P (Ok x) s e h = absurd e
-handed_on P (Err x) s e h = rw e h
 
 -- what is told of a result, by its `ok`
 pub told_ok : {T : Type 0} (P : Result T Stop → Type 0) (r : Result T Stop) (x : T) → Some x ≡ result_ok r → P r → P (Ok x)
@@ -42,9 +38,9 @@ step_stops bs at mid n s stop e t h = λ ss. stop_later requests a_step ss (num 
 
 -- PATHS
 
-pub path_none : (bs : List ℕ) (at : ℕ) → at ≤ length bs → PathAt bs at 0 (Ok at)
+pub path_none : (bs : List ℕ) (at n : ℕ) → n ≡ 0 → at ≤ length bs → PathAt bs at n (Ok at)
 unfolding spell path_tokens WritablePath
-path_none bs at h = ([], refl, tt, (omega arith, h, ap (λ n. take n (drop at bs)) (let z : at - at ≡ 0 = omega arith in z)))
+path_none bs at n e h = ([], sym e, tt, (omega arith, h, ap (λ n. take n (drop at bs)) (let z : at - at ≡ 0 = omega arith in z)))
 
 one_more : (bs : List ℕ) (at mid n : ℕ) (p : Step) (r : Result ℕ Stop) → WritableStep p → SpelledAt (step_tokens p) bs at mid → PathAt bs mid n r → PathAt bs at (suc n) r
 unfolding path_tokens WritablePath many
@@ -64,22 +60,22 @@ counted_path_stops bs at mid n stop c h = λ ss. stop_later requests a_path ss (
 
 -- REQUESTS
 
-pub check_there : (bs : List ℕ) (at end : ℕ) (item : Bor (List ℕ)) → TokenAt string (str item.now) bs at end → RestAt 0 (after_request 0) bs at (Ok (record { value = Check item; next = end }))
-check_there bs at end item t = (check item.now, str item.now ∷ [], refl, t.0.2.1, refl, spelled_one string (str item.now) bs at end t)
+pub check_there : (bs : List ℕ) (at mid end : ℕ) (item : Bor (List ℕ)) → TokenAt (opcode 2) (num 0) bs at mid → TokenAt string (str item.now) bs mid end → RequestFrom bs at (Ok (record { value = Check item; next = end }))
+check_there bs at mid end item k t = (check item.now, refl, t.0.2.1, spelled_two (opcode 2) string (num 0) (str item.now) bs at mid end k t)
 
-pub find_there : (bs : List ℕ) (at mid end : ℕ) (path : Path) (item : Bor (List ℕ)) → CountedPathAt bs at (Ok (record { value = path; next = mid })) → TokenAt string (str item.now) bs mid end → RestAt 1 (after_request 1) bs at (Ok (record { value = Find path item; next = end }))
-find_there bs at mid end path item (from, c, (ps, l, w, p), e) t =
-    let ts = path_tokens ps ++ str item.now ∷ [] in
-    (find ps item.now, num path.count ∷ ts, (ps, (l, e ∙ p.2), refl), (w, (let z = c.0.2.1 in omega arith), t.0.2.1), ap (λ k. num 1 ∷ num k ∷ ts) l, spelled_append (num path.count ∷ []) ts bs at from end (spelled_one number (num path.count) bs at from c) (spelled_append (path_tokens ps) (str item.now ∷ []) bs from mid end p (spelled_one string (str item.now) bs mid end t)))
+pub find_there : (bs : List ℕ) (at mid from end : ℕ) (path : Path) (item : Bor (List ℕ)) → TokenAt (opcode 2) (num 1) bs at mid → CountedPathAt bs mid (Ok (record { value = path; next = from })) → TokenAt string (str item.now) bs from end → RequestFrom bs at (Ok (record { value = Find path item; next = end }))
+find_there bs at mid from end path item k (steps, c, (ps, l, w, p), e) t =
+    let q = spelled_append (path_tokens ps) (str item.now ∷ []) bs steps from end p (spelled_one string (str item.now) bs from end t) in
+    (find ps item.now, (ps, (l, e ∙ p.2), refl), (w, (let z = c.0.2.1 in omega arith), t.0.2.1), subst (λ n. SpelledAt (num 1 ∷ num n ∷ (path_tokens ps ++ str item.now ∷ [])) bs at end) (sym l) (spelled_append (num 1 ∷ num path.count ∷ []) (path_tokens ps ++ str item.now ∷ []) bs at steps end (spelled_two (opcode 2) number (num 1) (num path.count) bs at mid steps k c) q))
 
 pub find_item_stops : (bs : List ℕ) (at mid : ℕ) (path : Path) (stop : Stop) → CountedPathAt bs at (Ok (record { value = path; next = mid })) → PendingStops requests (a_string ∷ []) bs mid stop → PendingStops requests (after_request 1) bs at stop
 find_item_stops bs at mid path stop (from, c, (ps, l, w, p), e) s =
     stop_later requests a_path (a_string ∷ []) (num path.count) bs at from stop c.0
     (subst (λ k. PendingStops requests (many k a_step ++ a_string ∷ []) bs from stop) l (stop_after requests (many (length ps) a_step ++ a_string ∷ []) (a_string ∷ []) (path_tokens ps) bs from mid stop (path_takes ps (a_string ∷ []) w) p s))
 
-pub fit_there : (bs : List ℕ) (at mid from end n : ℕ) (rules item : Bor (List ℕ)) → TokenAt string (str rules.now) bs at mid → TokenAt number (num n) bs mid from → TokenAt string (str item.now) bs from end → RestAt 2 (after_request 2) bs at (Ok (record { value = Fit rules n item; next = end }))
-fit_there bs at mid from end n rules item r c t =
-    (fit rules.now n item.now, str rules.now ∷ num n ∷ str item.now ∷ [], refl, (r.0.2.1, c.0.2.1, t.0.2.1), refl, spelled_append (str rules.now ∷ []) (num n ∷ str item.now ∷ []) bs at mid end (spelled_one string (str rules.now) bs at mid r) (spelled_two number string (num n) (str item.now) bs mid from end c t))
+pub fit_there : (bs : List ℕ) (at first mid from end n : ℕ) (rules item : Bor (List ℕ)) → TokenAt (opcode 2) (num 2) bs at first → TokenAt string (str rules.now) bs first mid → TokenAt number (num n) bs mid from → TokenAt string (str item.now) bs from end → RequestFrom bs at (Ok (record { value = Fit rules n item; next = end }))
+fit_there bs at first mid from end n rules item k r c t =
+    (fit rules.now n item.now, refl, (r.0.2.1, c.0.2.1, t.0.2.1), spelled_append (num 2 ∷ str rules.now ∷ []) (num n ∷ str item.now ∷ []) bs at mid end (spelled_two (opcode 2) string (num 2) (str rules.now) bs at first mid k r) (spelled_two number string (num n) (str item.now) bs mid from end c t))
 
 -- RULES
 
@@ -116,18 +112,17 @@ rules_there bs rules mid end t r =
       λ other h. let g = same_token string (str rules) (str other) [] bs mid end (length (spell (opening other))) r.0 h.0 (after_opcode bs other 2 mid t h).1 in let f = g.0 in cc,
     )
 
+pub rules_told : (old new : Reader) (r : Result (Bor (List ℕ)) Stop) → TokenAt (opcode 2) (num 2) old.bytes.now 0 old.at → Reads StringAt old new r → RulesIn old.bytes.now (result_ok r)
+rules_told old new (Ok rules) t (b, h) = rules_there old.bytes.now rules.now old.at new.at t h
+rules_told old new (Err stop) t h = λ rules. none_without_string old.bytes.now rules old.at stop t h
+
 -- from their first byte
 from_start : (bs : List ℕ) (stop : Stop) → PendingStops requests (a_request ∷ []) bs 0 stop → RequestAt bs (Err stop)
 from_start bs stop (h, s) = stops_request bs stop.place stop.least (let p : stop.place - 0 ≡ stop.place = omega arith in let n : stop.least - 0 ≡ stop.least = omega arith in subst (λ x. Stops (Any (Completes requests (a_request ∷ []))) bs x stop.least) p (subst (λ x. Stops (Any (Completes requests (a_request ∷ []))) bs (stop.place - 0) x) n s))
 
-pub no_request : (bs : List ℕ) (stop : Stop) → Stopped (Any (TokenOf (shape a_request))) bs 0 stop → RequestAt bs (Err stop)
-no_request bs stop h = from_start bs stop (stop_first requests completable a_request [] bs 0 stop h)
-
-pub whole : (n : ℕ) (bs : List ℕ) (mid : ℕ) (r : Result (Parsed Request) Stop) → TokenAt (opcode 2) (num n) bs 0 mid → RestAt n (next requests a_request (num n) ++ []) bs mid r → RequestAt bs r
-whole n bs mid (Ok x) t (a, ts, m, w, e, p) =
-    let q = spelled_append (num n ∷ []) ts bs 0 mid x.next (spelled_one (opcode 2) (num n) bs 0 mid t) p in
-    (a, m, (ap (λ k. take k bs) (let z : x.next ≡ x.next - 0 = omega arith in z) ∙ q.2 ∙ ap spell (sym e), w), q.1)
-whole n bs mid (Err stop) t s = from_start bs stop (stop_later requests a_request [] (num n) bs 0 mid stop t.0 s)
+pub whole : (bs : List ℕ) (r : Result (Parsed Request) Stop) → RequestFrom bs 0 r → RequestAt bs r
+whole bs (Ok x) (a, m, w, p) = (a, m, (ap (λ k. take k bs) (let z : x.next ≡ x.next - 0 = omega arith in z) ∙ p.2, w), p.1)
+whole bs (Err stop) s = from_start bs stop s
 
 -- READ BACK
 

@@ -4,8 +4,8 @@ use Rattle.std.specs.Borrow.{Bor}
 use Rattle.cbor.specs.declared.reading.Stop.{Stop}
 use Rattle.cbor.specs.Prefix.{Any, Stops}
 use Rattle.cbor.specs.Reading.{Stopped}
-use Rattle.sequence.specs.Token.{Token, num, str, spell, ByteString, opcode, number, TokenOf}
-use Rattle.sequence.specs.Reading.{TokenAt, SpelledAt, PendingStops}
+use Rattle.sequence.specs.Token.{num, str, spell, ByteString, opcode, number, TokenOf}
+use Rattle.sequence.specs.Reading.{TokenAt, TokenRead, SpelledAt, PendingStops}
 use Rattle.request.specs.declared.reading.Step.{Step as LentStep}
 use Rattle.request.specs.declared.reading.Step.TheVariants.{Index, Key, Content}
 use Rattle.request.specs.declared.reading.Path.{Path}
@@ -20,7 +20,7 @@ use Rattle.request.specs.declared.reading.Extent.{Extent}
 use Rattle.request.specs.declared.reading.Extent.TheVariants.{Complete, Incomplete, Wrong}
 use Rattle.request.specs.Asked.{Step, index, key, content, Asked, check, find, fit, step_tokens, path_tokens, tokens, write, WritableStep, WritablePath, Writable, IsRequest}
 use Rattle.sequence.specs.Grammar.{many}
-use Rattle.request.specs.Grammar.{Sort, a_path, a_step, requests}
+use Rattle.request.specs.Grammar.{Sort, a_request, a_path, a_step, requests}
 
 -- the kinds of steps and of requests, by their numbers
 abbrev pub step_number : StepKind → ℕ
@@ -34,8 +34,7 @@ kind_number KindFind = 1
 kind_number KindFit = 2
 
 abbrev pub KindAt : {K : Type 0} → (K → ℕ) → List ℕ → ℕ → Result (Parsed K) Stop → Type 0
-KindAt number_of bs at (Ok x) = TokenAt (opcode 2) (num (number_of x.value)) bs at x.next
-KindAt number_of bs at (Err s) = Stopped (Any (TokenOf (opcode 2))) bs at s
+KindAt number_of bs at r = TokenRead (opcode 2) (λ k. num (number_of k)) bs at r
 
 -- a step, a path and a request, as parts of the lent bytes, stand for what is asked
 abbrev pub step_of : LentStep → Step
@@ -64,10 +63,10 @@ abbrev pub CountedPathAt : List ℕ → ℕ → Result (Parsed Path) Stop → Ty
 CountedPathAt bs at (Ok x) = (from : ℕ) × TokenAt number (num x.value.count) bs at from × PathAt bs from x.value.count (Ok x.next) × (x.value.steps.now ≡ take (x.next - from) (drop from bs))
 CountedPathAt bs at (Err s) = (ss : List Sort) → PendingStops requests (a_path ∷ ss) bs at s
 
--- what stands after a request's first token
-abbrev pub RestAt : ℕ → List Sort → List ℕ → ℕ → Result (Parsed Request) Stop → Type 0
-RestAt first ss bs at (Ok x) = (a : Asked) × (ts : List Token) × Means x.value a × Writable a × (tokens a ≡ num first ∷ ts) × SpelledAt ts bs at x.next
-RestAt first ss bs at (Err s) = PendingStops requests ss bs at s
+-- the request that stands at a place
+abbrev pub RequestFrom : List ℕ → ℕ → Result (Parsed Request) Stop → Type 0
+RequestFrom bs at (Ok x) = (a : Asked) × Means x.value a × Writable a × SpelledAt (tokens a) bs at x.next
+RequestFrom bs at (Err s) = PendingStops requests (a_request ∷ []) bs at s
 
 -- the request that stands at the beginning of the bytes, and how many of them it took; or no request stands there, and they cease to begin one at a place
 abbrev pub RequestAt : List ℕ → Result (Parsed Request) Stop → Type 0

@@ -1,10 +1,10 @@
 // Requests read from lent bytes as parts of them, with the place where there is none.
 ghost use Rattle.std.specs.Prelude.{◌≡◌, ℕ, ◌≤◌};
-ghost use Rattle.request.specs.Grammar.{after_request};
-ghost use Rattle.request.specs.Reading.{step_number, kind_number, KindAt, StepAt, CountedPathAt, RestAt, RequestAt, ReadsBack, Reaches, RulesIn};
+ghost use Rattle.sequence.specs.Reading.{Reads};
+ghost use Rattle.request.specs.Reading.{step_number, kind_number, KindAt, StepAt, CountedPathAt, RequestFrom, RequestAt, ReadsBack, Reaches, RulesIn};
 
 use cbor::reading::Stop;
-use sequence::reading::{Parsed, read_number, read_opcode, read_string};
+use sequence::reading::{Parsed, Reader};
 
 // A step into an item: an array's element by its number from 0, the value at a key, what a tag is on.
 #[derive(Clone, Copy, Debug, PartialEq, Eq)]
@@ -86,81 +86,64 @@ impl Numbered for Kind {
     }
 }
 
-fn read_kind<K: Numbered>(bytes: &[u8], at: usize) -> Result<Parsed<K>, Stop>
-    ensures { KindAt K.number_of bytes.now at result }
+fn read_kind<K: Numbered>(reader: &mut Reader<'_>) -> Result<K, Stop>
+    ensures { Reads (KindAt K.number_of) reader.old reader.new result }
 {
-    let number = read_opcode(bytes, at, 2)?;
-    Ok(Parsed {
-        value: K::of_number(number.argument),
-        next: number.next,
-    })
+    Ok(K::of_number(reader.opcode(2)?))
+}
+
+fn next_step<'a>(reader: &mut Reader<'a>) -> Result<Step<'a>, Stop>
+    ensures { Reads StepAt reader.old reader.new result }
+{
+    match read_kind::<StepKind>(reader)? {
+        StepKind::Index => Ok(Step::Index(reader.number()?)),
+        StepKind::Key => Ok(Step::Key(reader.string()?)),
+        StepKind::Content => Ok(Step::Content),
+    }
 }
 
 // The step that stands at a place.
 pub fn read_step(bytes: &[u8], at: usize) -> Result<Parsed<Step<'_>>, Stop>
     ensures { StepAt bytes.now at result }
 {
-    let kind = read_kind::<StepKind>(bytes, at)?;
-    match kind.value {
-        StepKind::Index => {
-            let index = read_number(bytes, kind.next)?;
-            Ok(Parsed {
-                value: Step::Index(index.argument),
-                next: index.next,
-            })
-        }
-        StepKind::Key => Ok(read_string(bytes, kind.next)?.map(Step::Key)),
-        StepKind::Content => Ok(Parsed {
-            value: Step::Content,
-            next: kind.next,
-        }),
-    }
+    let mut reader = Reader { bytes, at };
+    let value = next_step(&mut reader)?;
+    Ok(Parsed {
+        value,
+        next: reader.at,
+    })
 }
 
 // A path: how many steps, and the steps.
-fn read_path(bytes: &[u8], at: usize) -> Result<Parsed<Path<'_>>, Stop>
-    ensures { CountedPathAt bytes.now at result }
+fn read_path<'a>(reader: &mut Reader<'a>) -> Result<Path<'a>, Stop>
+    ensures { Reads CountedPathAt reader.old reader.new result }
 {
-    let count = read_number(bytes, at)?;
-    let mut next = count.next;
-    for _ in 0..count.argument {
-        next = read_step(bytes, next)?.next;
+    let count = reader.number()?;
+    let from = reader.at;
+    for _ in 0..count {
+        next_step(reader)?;
     }
-    let value = Path {
-        count: count.argument,
-        steps: &bytes[count.next..next],
-    };
-    Ok(Parsed { value, next })
+    let steps = &reader.bytes[from..reader.at];
+    Ok(Path { count, steps })
 }
 
-fn read_check(bytes: &[u8], at: usize) -> Result<Parsed<Request<'_>>, Stop>
-    ensures { RestAt 0 (after_request 0) bytes.now at result }
+fn next_request<'a>(reader: &mut Reader<'a>) -> Result<Request<'a>, Stop>
+    ensures { Reads RequestFrom reader.old reader.new result }
 {
-    Ok(read_string(bytes, at)?.map(Request::Check))
-}
-
-// By fields and not by `map`: of a closure that captures the path, with `move` or without, no contract is inferred.
-fn read_find(bytes: &[u8], at: usize) -> Result<Parsed<Request<'_>>, Stop>
-    ensures { RestAt 1 (after_request 1) bytes.now at result }
-{
-    let path = read_path(bytes, at)?;
-    let item = read_string(bytes, path.next)?;
-    Ok(Parsed {
-        value: Request::Find(path.value, item.value),
-        next: item.next,
-    })
-}
-
-fn read_fit(bytes: &[u8], at: usize) -> Result<Parsed<Request<'_>>, Stop>
-    ensures { RestAt 2 (after_request 2) bytes.now at result }
-{
-    let rules = read_string(bytes, at)?;
-    let which = read_number(bytes, rules.next)?;
-    let item = read_string(bytes, which.next)?;
-    Ok(Parsed {
-        value: Request::Fit(rules.value, which.argument, item.value),
-        next: item.next,
-    })
+    match read_kind::<Kind>(reader)? {
+        Kind::Check => Ok(Request::Check(reader.string()?)),
+        Kind::Find => {
+            let path = read_path(reader)?;
+            let item = reader.string()?;
+            Ok(Request::Find(path, item))
+        }
+        Kind::Fit => {
+            let rules = reader.string()?;
+            let which = reader.number()?;
+            let item = reader.string()?;
+            Ok(Request::Fit(rules, which, item))
+        }
+    }
 }
 
 // The request that stands at the beginning of some bytes, or where they cease to begin one. Rules are not looked into.
@@ -168,12 +151,12 @@ pub fn read_request(bytes: &[u8]) -> Result<Parsed<Request<'_>>, Stop>
     ensures right { RequestAt bytes.now result }
     ensures back { ReadsBack bytes.now result }
 {
-    let kind = read_kind::<Kind>(bytes, 0)?;
-    match kind.value {
-        Kind::Check => read_check(bytes, kind.next),
-        Kind::Find => read_find(bytes, kind.next),
-        Kind::Fit => read_fit(bytes, kind.next),
-    }
+    let mut reader = Reader { bytes, at: 0 };
+    let value = next_request(&mut reader)?;
+    Ok(Parsed {
+        value,
+        next: reader.at,
+    })
 }
 
 pub fn extent_of(bytes: &[u8]) -> Extent
@@ -190,9 +173,9 @@ pub fn extent_of(bytes: &[u8]) -> Extent
 pub fn rules_in(bytes: &[u8]) -> Option<&[u8]>
     ensures { RulesIn bytes.now result }
 {
-    let kind = read_kind::<Kind>(bytes, 0).ok()?;
-    match kind.value {
-        Kind::Fit => Some(read_string(bytes, kind.next).ok()?.value),
+    let mut reader = Reader { bytes, at: 0 };
+    match read_kind::<Kind>(&mut reader).ok()? {
+        Kind::Fit => reader.string().ok(),
         Kind::Check | Kind::Find => None,
     }
 }

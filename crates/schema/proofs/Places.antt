@@ -1,25 +1,23 @@
 -- Nodes at places of lent bytes.
-use Rattle.std.proofs.Common.{◌≡◌, ℕ, ◌-◌, ◌<◌, ◌≤◌, List, [], ◌∷◌, ◌++◌, length, take, drop, Ok, Err, Result, sym, refl, ap, ◌∙◌, subst, inl, inr, arith, Bor}
+use Rattle.std.proofs.Common.{◌≡◌, ℕ, ◌-◌, ◌<◌, ◌≤◌, List, [], ◌∷◌, ◌++◌, length, take, drop, Ok, Err, Result, sym, refl, ap, ◌∙◌, subst, inr, arith}
 use Rattle.std.specs.Result.{IsErrAnd}
 use Rattle.cbor.specs.declared.reading.Stop.{Stop}
 use Rattle.cbor.specs.Prefix.{Any}
 use Rattle.cbor.specs.Reading.{Stopped}
 use Rattle.cbor.proofs.Words.{stops_same}
 use Rattle.cbor.proofs.Places.{part_length}
-use Rattle.sequence.specs.Token.{Token, num, str, spell, Shape, number, string, Suits, Word, TokenOf}
-use Rattle.sequence.specs.Grammar.{next, Takes, Completes, many}
+use Rattle.sequence.specs.Token.{Token, num, spell, number, TokenOf}
+use Rattle.sequence.specs.Grammar.{next, Takes, Completes}
 use Rattle.sequence.specs.declared.reading.Parsed.{Parsed}
-use Rattle.sequence.specs.Reading.{TokenAt, SpelledAt}
+use Rattle.sequence.specs.declared.reading.Reader.{Reader}
+use Rattle.sequence.specs.Reading.{TokenAt, TokenRead, SpelledAt, Reads}
 use Rattle.sequence.proofs.Grammars.{spelled_one, spelled_append, stop_first, stop_later, none_stands, same_token}
-use Rattle.schema.specs.declared.nodes.Schema.{Schema}
-use Rattle.schema.specs.declared.nodes.Schema.TheVariants.{Literal}
-use Rattle.schema.specs.declared.nodes.Group.TheVariants.{Repeat}
-use Rattle.schema.specs.declared.nodes.Field.{Field}
+use Rattle.sequence.proofs.Readers.{stopped}
 use Rattle.schema.specs.declared.nodes.Node.{Node}
 use Rattle.schema.specs.declared.nodes.Node.TheVariants.{OfSchema, OfGroup, OfField}
-use Rattle.schema.specs.Grammar.{Sort, a_rule, a_schema, a_group, a_field, a_bound, a_last, a_literal, shape, after, after_schema, after_field, grammar}
-use Rattle.schema.specs.Nodes.{schema_own, inner_of_schema, field_own, inner_of_field, own_tokens, inside}
-use Rattle.schema.specs.Reading.{RangeAt, RangedAt, NumberedAt, KeyedAt, OfSort, Opens, Whole, Stuck, Ceases, RestAt, NodeAt}
+use Rattle.schema.specs.Grammar.{Sort, a_rule, a_schema, a_bound, a_last, shape, after, grammar}
+use Rattle.schema.specs.Nodes.{own_tokens, inside}
+use Rattle.schema.specs.Reading.{MadeAt, RangedAt, OfSort, Opens, Whole, Stuck, Ceases, RestAt, NodeAt}
 use Rattle.schema.proofs.Trees.{completable, as_rule, as_schema}
 
 -- in the first token, or after it
@@ -57,77 +55,41 @@ rest_none : (s : Sort) (n : ℕ) (x : Node) (bs : List ℕ) (mid : ℕ) → mid 
 unfolding Takes spell
 rest_none s n x bs mid h o e f = (o, [], e, (omega arith, h, ap (λ k. take k (drop mid bs)) (let z : mid - mid ≡ 0 = omega arith in z)), λ ss. ap (λ ys. ys ++ ss) f)
 
--- a stop that is handed on
-pub handed_on : {T : Type 0} (P : Result T Stop → Type 0) (stop : Stop) (r : Result T Stop) → IsErrAnd r (λ y. y ≡ stop) → P (Err stop) → P r
-handed_on P stop (Ok x) e h = absurd e
-handed_on P stop (Err y) e h = subst (λ z. P (Err z)) (sym e) h
-
--- what was read, mapped
-pub mapped : {T : Type 0} (P : Result (Parsed T) Stop → Type 0) (x : Parsed T) (value : T) (next : ℕ) → x.value ≡ value → x.next ≡ next → P (Ok (record { value = value; next = next })) → P (Ok x)
-mapped P x value next e f h = subst (λ n. P (Ok (record { value = x.value; next = n }))) (sym f) (subst (λ v. P (Ok (record { value = v; next = next }))) (sym e) h)
-
-pub node_stops : (s : Sort) (bs : List ℕ) (at : ℕ) (stop : Stop) (r : Result (Parsed Node) Stop) → IsErrAnd r (λ y. y ≡ stop) → Stopped (Any (TokenOf (shape s))) bs at stop → NodeAt s bs at r
-node_stops s bs at stop r e h = handed_on (NodeAt s bs at) stop r e (λ ss. ceases_first s ss bs at stop h)
-
--- an opcode that is known
-opcode_is : (s : Shape) (n m : ℕ) (bs : List ℕ) (at mid : ℕ) → n ≡ m → TokenAt s (num n) bs at mid → TokenAt s (num m) bs at mid
-opcode_is s n m bs at mid e t = subst (λ k. TokenAt s (num k) bs at mid) e t
-
-pub node_after : (s : Sort) (n m : ℕ) (bs : List ℕ) (at mid : ℕ) (r : Result (Parsed Node) Stop) → n ≡ m → TokenAt (shape s) (num n) bs at mid → RestAt s m bs mid r → NodeAt s bs at r
-node_after s n m bs at mid r z t h = node_whole s m bs at mid r (opcode_is (shape s) n m bs at mid z t) h
-
-pub node_bare : (s : Sort) (n m : ℕ) (x : Node) (bs : List ℕ) (at mid : ℕ) (r : Result (Parsed Node) Stop) → n ≡ m → TokenAt (shape s) (num n) bs at mid → r ≡ Ok (record { value = x; next = mid }) → OfSort s x → own_tokens x ≡ num m ∷ [] → after s m ≡ inside x → NodeAt s bs at r
-node_bare s n m x bs at mid r z t e o f g = node_after s n m bs at mid r z t (subst (RestAt s m bs mid) (sym e) (rest_none s m x bs mid t.0.1 o f g))
-
 -- TWO NUMBERS
 
-pub range_first : (bs : List ℕ) (at : ℕ) (stop : Stop) → Stopped (Any (TokenOf number)) bs at stop → RangeAt bs at (Err stop)
-range_first bs at stop h = λ ss. ceases_first a_bound (a_last ∷ ss) bs at stop h
+pub range_second : (bs : List ℕ) (at mid n : ℕ) (stop : Stop) → TokenAt number (num n) bs at mid → Stopped (Any (TokenOf number)) bs mid stop → (ss : List Sort) → Ceases (a_bound ∷ a_last ∷ ss) bs at stop
+range_second bs at mid n stop t h ss = ceases_later a_bound (a_last ∷ ss) (num n) bs at mid stop t (ceases_first a_last ss bs mid stop h) (λ w. w)
 
-pub range_second : (bs : List ℕ) (at mid n : ℕ) (stop : Stop) → TokenAt number (num n) bs at mid → Stopped (Any (TokenOf number)) bs mid stop → RangeAt bs at (Err stop)
-range_second bs at mid n stop t h = λ ss. ceases_later a_bound (a_last ∷ ss) (num n) bs at mid stop t (ceases_first a_last ss bs mid stop h) (λ w. w)
+-- AFTER AN OPCODE
 
-none_inside : (x : Schema) → (inner_of_schema x).1 ≡ 0 → inside (OfSchema x) ≡ []
-unfolding many
-none_inside x e = ap (λ k. many k (inner_of_schema x).0) e
+module _ {U : Type 0} (node_of : U → Node) (s : Sort) (n m : ℕ) (old mid : Reader) (z : n ≡ m) (opcode : Reads (TokenRead (shape s) num) old mid (Ok n)) where
+  opened : TokenAt (shape s) (num m) old.bytes.now old.at mid.at
+  opened = subst (λ k. TokenAt (shape s) (num k) old.bytes.now old.at mid.at) z opcode.1
 
-pub ranged_rest : (n : ℕ) (made : ℕ → ℕ → Schema → Type 0) (bs : List ℕ) (at : ℕ) (r : Result (Parsed Node) Stop) → RangedAt made bs at r → after_schema n ≡ a_bound ∷ a_last ∷ [] → ((lo hi : ℕ) (x : Schema) → made lo hi x → (schema_own x ≡ num n ∷ num lo ∷ num hi ∷ []) × ((inner_of_schema x).1 ≡ 0)) → RestAt a_schema n bs at r
-unfolding Takes
-ranged_rest n made bs at (Ok y) (lo, hi, x, m, e, a, b, p) l g =
-    let (o, f) = g lo hi x m in
-    subst (λ z. RestAt a_schema n bs at (Ok (record { value = z; next = y.next }))) (sym e) (inl refl, num lo ∷ num hi ∷ [], o, p, λ ss. subst (λ ys. Takes grammar (ys ++ ss) (num lo ∷ num hi ∷ []) (inside (OfSchema x) ++ ss)) (sym l) (subst (λ ys. Takes grammar (a_bound ∷ a_last ∷ ss) (num lo ∷ num hi ∷ []) (ys ++ ss)) (sym (none_inside x f)) (a, (b, refl))))
-ranged_rest n made bs at (Err stop) h l g = λ ss. subst (λ ys. Ceases (ys ++ ss) bs at stop × (Whole (ys ++ ss) → ⊥)) (sym l) (h ss, λ w. w)
+  made_there : (new : Reader) (u : U) → new.bytes ≡ mid.bytes → RestAt s m old.bytes.now mid.at (Ok (record { value = node_of u; next = new.at })) → Reads (MadeAt node_of s) old new (Ok u)
+  made_there new u d h = (d ∙ opcode.0, node_whole s m old.bytes.now old.at mid.at (Ok (record { value = node_of u; next = new.at })) opened h)
 
-pub repeat_there : (lo hi : ℕ) (bs : List ℕ) (at end : ℕ) → Word lo × Word hi × SpelledAt (num lo ∷ num hi ∷ []) bs at end → RestAt a_group 4 bs at (Ok (record { value = OfGroup (Repeat lo hi); next = end }))
-unfolding Takes many
-repeat_there lo hi bs at end (a, b, p) = (refl, num lo ∷ num hi ∷ [], refl, p, λ ss. (a, (b, refl)))
+  made_stops : (new : Reader) (stop : Stop) → RestAt s m old.bytes.now mid.at (Err stop) → Reads (MadeAt node_of s) old new (Err stop)
+  made_stops new stop h = node_whole s m old.bytes.now old.at mid.at (Err stop) opened h
 
-pub repeat_stops : (bs : List ℕ) (at : ℕ) (stop : Stop) → RangeAt bs at (Err stop) → RestAt a_group 4 bs at (Err stop)
-repeat_stops bs at stop f = λ ss. (f (a_group ∷ ss), λ w. w)
+  pub node_bare : (u : U) → OfSort s (node_of u) → own_tokens (node_of u) ≡ num m ∷ [] → after s m ≡ inside (node_of u) → Reads (MadeAt node_of s) old mid (Ok u)
+  node_bare u o f g = made_there mid u refl (rest_none s m (node_of u) old.bytes.now mid.at opcode.1.0.1 o f g)
 
--- ONE NUMBER
+  pub node_ranged : (after_it : List Sort) (made : ℕ → ℕ → U → Type 0) (new : Reader) (y : Result U Stop) → Reads (RangedAt made) mid new y → after s m ≡ a_bound ∷ a_last ∷ after_it → ((lo hi : ℕ) (u : U) → made lo hi u → OfSort s (node_of u) × (own_tokens (node_of u) ≡ num m ∷ num lo ∷ num hi ∷ []) × (after_it ≡ inside (node_of u))) → Reads (MadeAt node_of s) old new y
+  unfolding Takes
+  node_ranged after_it made new (Ok u) (d, (lo, hi, x, v, w, p)) l f =
+      let (o, e, g) = f lo hi u x in
+      made_there new u d (o, num lo ∷ num hi ∷ [], e, rw opcode.0 at p, λ ss. subst (λ ys. Takes grammar (ys ++ ss) (num lo ∷ num hi ∷ []) (inside (node_of u) ++ ss)) (sym l) (v, (w, ap (λ ys. ys ++ ss) g)))
+  node_ranged after_it made new (Err stop) h l f = made_stops new stop (λ ss. subst (λ ys. Ceases (ys ++ ss) old.bytes.now mid.at stop × (Whole (ys ++ ss) → ⊥)) (sym l) (rw opcode.0 at (h (after_it ++ ss)), λ w. w))
 
-pub numbered_rest : (n : ℕ) (s : Sort) (after_it : List Sort) (made : ℕ → Schema → Type 0) (bs : List ℕ) (at : ℕ) (r : Result (Parsed Node) Stop) → NumberedAt made bs at r → shape s ≡ number → (Opens s → ⊥) → after_schema n ≡ s ∷ after_it → ((k : ℕ) (x : Schema) → made k x → (schema_own x ≡ num n ∷ num k ∷ []) × ((ss : List Sort) → after s k ++ (after_it ++ ss) ≡ inside (OfSchema x) ++ ss)) → RestAt a_schema n bs at r
-unfolding Takes
-numbered_rest n s after_it made bs at (Ok y) (k, x, m, e, t) i j l g =
-    let (o, f) = g k x m in
-    subst (λ z. RestAt a_schema n bs at (Ok (record { value = z; next = y.next }))) (sym e) (inl refl, num k ∷ [], o, spelled_one number (num k) bs at y.next t, λ ss. subst (λ ys. Takes grammar (ys ++ ss) (num k ∷ []) (inside (OfSchema x) ++ ss)) (sym l) (subst (λ z. Suits z (num k)) (sym i) t.0.2.1, f ss))
-numbered_rest n s after_it made bs at (Err stop) h i j l g = λ ss. subst (λ ys. Ceases (ys ++ ss) bs at stop × (Whole (ys ++ ss) → ⊥)) (sym l) (ceases_first s (after_it ++ ss) bs at stop (subst (λ z. Stopped (Any (TokenOf z)) bs at stop) (sym i) h), j)
+  pub token_there : (t : Token) (x : Sort) (after_it : List Sort) (new : Reader) (u : U) → (new.bytes ≡ mid.bytes) × TokenAt (shape x) t mid.bytes.now mid.at new.at → after s m ≡ x ∷ after_it → OfSort s (node_of u) → own_tokens (node_of u) ≡ num m ∷ t ∷ [] → ((ss : List Sort) → next grammar x t ++ (after_it ++ ss) ≡ inside (node_of u) ++ ss) → Reads (MadeAt node_of s) old new (Ok u)
+  unfolding Takes
+  token_there t x after_it new u (d, p) l o e g =
+      let q = rw opcode.0 at p in
+      made_there new u d (o, t ∷ [], e, spelled_one (shape x) t old.bytes.now mid.at new.at q, λ ss. subst (λ ys. Takes grammar (ys ++ ss) (t ∷ []) (inside (node_of u) ++ ss)) (sym l) (q.0.2.1, g ss))
 
--- STRINGS
-
-pub literal_there : (bs : List ℕ) (at end : ℕ) (item : Bor (List ℕ)) → TokenAt string (str item.now) bs at end → RestAt a_schema 5 bs at (Ok (record { value = OfSchema (Literal item); next = end }))
-unfolding Takes many
-literal_there bs at end item t = (inl refl, str item.now ∷ [], refl, spelled_one string (str item.now) bs at end t, λ ss. (t.0.2.1, refl))
-
--- FIELDS
-
-pub keyed_rest : (n : ℕ) (made : Bor (List ℕ) → Field → Type 0) (bs : List ℕ) (at : ℕ) (r : Result (Parsed Node) Stop) → KeyedAt made bs at r → after_field n ≡ a_literal ∷ a_schema ∷ [] → ((key : Bor (List ℕ)) (x : Field) → made key x → (field_own x ≡ num n ∷ str key.now ∷ []) × (inner_of_field x ≡ (a_schema, 1))) → RestAt a_field n bs at r
-unfolding Takes many
-keyed_rest n made bs at (Ok y) (key, x, m, e, t) l g =
-    let (o, f) = g key x m in
-    subst (λ z. RestAt a_field n bs at (Ok (record { value = z; next = y.next }))) (sym e) (refl, str key.now ∷ [], o, spelled_one string (str key.now) bs at y.next t, λ ss. subst (λ ys. Takes grammar (ys ++ ss) (str key.now ∷ []) (inside (OfField x) ++ ss)) (sym l) (t.0.2.1, ap (λ p. many p.1 p.0 ++ ss) (sym f)))
-keyed_rest n made bs at (Err stop) h l g = λ ss. subst (λ ys. Ceases (ys ++ ss) bs at stop × (Whole (ys ++ ss) → ⊥)) (sym l) (ceases_first a_literal (a_schema ∷ ss) bs at stop h, λ w. w)
+  pub token_stops : (x : Sort) (after_it : List Sort) (new : Reader) (stop : Stop) (r : Result U Stop) → IsErrAnd r (λ y. y ≡ stop) → Stopped (Any (TokenOf (shape x))) mid.bytes.now mid.at stop → after s m ≡ x ∷ after_it → (Opens x → ⊥) → Reads (MadeAt node_of s) old new r
+  token_stops x after_it new stop r e h l i = stopped (MadeAt node_of s) old new r stop e (made_stops new stop (λ ss. subst (λ ys. Ceases (ys ++ ss) old.bytes.now mid.at stop × (Whole (ys ++ ss) → ⊥)) (sym l) (ceases_first x (after_it ++ ss) old.bytes.now mid.at stop (rw opcode.0 at h), i)))
 
 -- RULES
 

@@ -1,17 +1,12 @@
 -- What reading a node tells.
 use Rattle.std.specs.Prelude.{◌≡◌, ℕ, ◌<◌, ◌⊎◌, List, [], ◌∷◌, ◌++◌, Ok, Err, Result}
-use Rattle.std.specs.Borrow.{Bor}
 use Rattle.cbor.specs.declared.reading.Stop.{Stop}
-use Rattle.cbor.specs.Prefix.{Any}
-use Rattle.cbor.specs.Reading.{Stopped}
-use Rattle.sequence.specs.Token.{Token, num, str, number, string, Word, TokenOf}
+use Rattle.sequence.specs.Token.{Token, num, Word}
 use Rattle.sequence.specs.Grammar.{Takes}
 use Rattle.sequence.specs.declared.reading.Parsed.{Parsed}
-use Rattle.sequence.specs.Reading.{TokenAt, SpelledAt, PendingStops}
+use Rattle.sequence.specs.Reading.{SpelledAt, PendingStops}
 use Rattle.schema.specs.declared.nodes.Node.{Node}
 use Rattle.schema.specs.declared.nodes.Node.TheVariants.{OfSchema, OfGroup, OfField}
-use Rattle.schema.specs.declared.nodes.Schema.{Schema}
-use Rattle.schema.specs.declared.nodes.Field.{Field}
 use Rattle.schema.specs.Grammar.{Sort, the_rules, a_rule, a_schema, a_group, the_fields, a_field, a_bound, a_last, a_literal, after, grammar}
 use Rattle.schema.specs.Nodes.{own_tokens, inside}
 
@@ -39,10 +34,6 @@ Stuck ss bs at = (vs : List Token) (rest : List Sort) (end : ℕ) → Takes gram
 abbrev pub Ceases : List Sort → List ℕ → ℕ → Stop → Type 0
 Ceases ss bs at stop = PendingStops grammar ss bs at stop × Stuck ss bs at
 
-abbrev pub RangeAt : List ℕ → ℕ → Result (Parsed (ℕ × ℕ)) Stop → Type 0
-RangeAt bs at (Ok r) = Word r.value.0 × Word r.value.1 × SpelledAt (num r.value.0 ∷ num r.value.1 ∷ []) bs at r.next
-RangeAt bs at (Err s) = (ss : List Sort) → Ceases (a_bound ∷ a_last ∷ ss) bs at s
-
 -- a node of a sort
 abbrev pub OfSort : Sort → Node → Type 0
 OfSort s (OfSchema x) = (s ≡ a_schema) ⊎ (s ≡ a_rule)
@@ -59,16 +50,12 @@ abbrev pub RestAt : Sort → ℕ → List ℕ → ℕ → Result (Parsed Node) S
 RestAt s n bs at (Ok x) = OfSort s x.value × (ts : List Token) × (own_tokens x.value ≡ num n ∷ ts) × SpelledAt ts bs at x.next × ((ss : List Sort) → Takes grammar (after s n ++ ss) ts (inside x.value ++ ss))
 RestAt s n bs at (Err stop) = (ss : List Sort) → Ceases (after s n ++ ss) bs at stop × (Whole (after s n ++ ss) → ⊥)
 
--- after an opcode, a schema made of two numbers, or of one
-abbrev pub RangedAt : (ℕ → ℕ → Schema → Type 0) → List ℕ → ℕ → Result (Parsed Node) Stop → Type 0
-RangedAt made bs at (Ok x) = (lo : ℕ) × (hi : ℕ) × (s : Schema) × made lo hi s × (x.value ≡ OfSchema s) × Word lo × Word hi × SpelledAt (num lo ∷ num hi ∷ []) bs at x.next
+-- a schema, a group or a field, as its node
+abbrev pub MadeAt : {T : Type 0} → (T → Node) → Sort → List ℕ → ℕ → Result (Parsed T) Stop → Type 0
+MadeAt node_of s bs at (Ok x) = NodeAt s bs at (Ok (record { value = node_of x.value; next = x.next }))
+MadeAt node_of s bs at (Err stop) = NodeAt s bs at (Err stop)
+
+-- what is made of two numbers
+abbrev pub RangedAt : {T : Type 0} → (ℕ → ℕ → T → Type 0) → List ℕ → ℕ → Result (Parsed T) Stop → Type 0
+RangedAt made bs at (Ok x) = (lo : ℕ) × (hi : ℕ) × made lo hi x.value × Word lo × Word hi × SpelledAt (num lo ∷ num hi ∷ []) bs at x.next
 RangedAt made bs at (Err stop) = (ss : List Sort) → Ceases (a_bound ∷ a_last ∷ ss) bs at stop
-
-abbrev pub NumberedAt : (ℕ → Schema → Type 0) → List ℕ → ℕ → Result (Parsed Node) Stop → Type 0
-NumberedAt made bs at (Ok x) = (n : ℕ) × (s : Schema) × made n s × (x.value ≡ OfSchema s) × TokenAt number (num n) bs at x.next
-NumberedAt made bs at (Err stop) = Stopped (Any (TokenOf number)) bs at stop
-
--- a field made of a key
-abbrev pub KeyedAt : (Bor (List ℕ) → Field → Type 0) → List ℕ → ℕ → Result (Parsed Node) Stop → Type 0
-KeyedAt made bs at (Ok x) = (key : Bor (List ℕ)) × (f : Field) × made key f × (x.value ≡ OfField f) × TokenAt string (str key.now) bs at x.next
-KeyedAt made bs at (Err stop) = Stopped (Any (TokenOf string)) bs at stop

@@ -1,10 +1,11 @@
 // The nodes of rules, each schema, group and field by itself, read from lent bytes.
-ghost use Rattle.std.specs.Prelude.{◌≡◌, Ok};
+ghost use Rattle.sequence.specs.Reading.{Reads};
 ghost use Rattle.schema.specs.Grammar.{a_schema, a_group, a_field};
-ghost use Rattle.schema.specs.Reading.{RangeAt, RangedAt, NumberedAt, KeyedAt, RestAt, NodeAt};
+ghost use Rattle.schema.specs.Reading.{RangedAt, MadeAt, NodeAt};
+ghost use Rattle.schema.specs.declared.nodes.Node.TheVariants.{OfSchema, OfGroup, OfField};
 
-use cbor::reading::{Head, Stop};
-use sequence::reading::{Parsed, read_number, read_opcode, read_string};
+use cbor::reading::Stop;
+use sequence::reading::{Parsed, Reader};
 
 #[derive(Clone, Copy, Debug, PartialEq, Eq)]
 pub enum Schema<'a> {
@@ -60,133 +61,95 @@ pub struct Run {
     pub count: u64,
 }
 
-fn read_range(bytes: &[u8], at: usize) -> Result<Parsed<(u64, u64)>, Stop>
-    ensures { RangeAt bytes.now at result }
-{
-    let low = read_number(bytes, at)?;
-    let high = read_number(bytes, low.next)?;
-    Ok(Parsed {
-        value: (low.argument, high.argument),
-        next: high.next,
-    })
-}
-
-// Nothing but the opcode.
-fn bare<'a>(node: Node<'a>, next: usize) -> Result<Parsed<Node<'a>>, Stop>
-    ensures { result ≡ Ok (record { value = node.entry; next = next }) }
-{
-    Ok(Parsed { value: node, next })
-}
-
-// A schema made of the two numbers that follow its opcode.
+// A schema made of the two numbers that stand next.
 fn read_ranged<'a, F: FnOnce(u64, u64) -> Schema<'a>>(
-    bytes: &'a [u8],
-    at: usize,
+    reader: &mut Reader<'a>,
     make: F,
-) -> Result<Parsed<Node<'a>>, Stop>
+) -> Result<Schema<'a>, Stop>
     requires { F.IsAlwaysCallable make }
-    ensures { RangedAt (F.post make) bytes.now at result }
+    ensures { Reads (RangedAt (F.post make)) reader.old reader.new result }
 {
-    // Tried: `map`. No proof is made of a closure that calls `make`, whose result holds the bytes.
-    let Parsed {
-        value: (low, high),
-        next,
-    } = read_range(bytes, at)?;
-    Ok(Parsed {
-        value: Node::OfSchema(make(low, high)),
-        next,
-    })
+    let low = reader.number()?;
+    let high = reader.number()?;
+    Ok(make(low, high))
 }
 
-fn read_literal<'a>(bytes: &'a [u8], at: usize) -> Result<Parsed<Node<'a>>, Stop>
-    ensures { RestAt a_schema 5 bytes.now at result }
+fn next_schema<'a>(reader: &mut Reader<'a>) -> Result<Schema<'a>, Stop>
+    ensures { Reads (MadeAt OfSchema a_schema) reader.old reader.new result }
 {
-    let item = read_string(bytes, at)?;
-    Ok(item.map(|item| Node::OfSchema(Schema::Literal(item))))
-}
-
-// A schema made of the number that follows its opcode.
-fn read_numbered<'a, F: FnOnce(u64) -> Schema<'a>>(
-    bytes: &'a [u8],
-    at: usize,
-    make: F,
-) -> Result<Parsed<Node<'a>>, Stop>
-    requires { F.IsAlwaysCallable make }
-    ensures { NumberedAt (F.post make) bytes.now at result }
-{
-    let Head { argument, next } = read_number(bytes, at)?;
-    Ok(Parsed {
-        value: Node::OfSchema(make(argument)),
-        next,
-    })
+    // Here the number that was read becomes its enum.
+    match reader.opcode(10)? {
+        0 => Ok(Schema::Any),
+        1 => read_ranged(reader, Schema::Unsigned),
+        2 => read_ranged(reader, Schema::Negative),
+        3 => read_ranged(reader, Schema::ByteLength),
+        4 => read_ranged(reader, Schema::TextLength),
+        5 => Ok(Schema::Literal(reader.string()?)),
+        6 => Ok(Schema::Choice),
+        7 => Ok(Schema::Array),
+        8 => Ok(Schema::Map(reader.number()?)),
+        9 => Ok(Schema::Tag(reader.number()?)),
+        _ => Ok(Schema::Rule(reader.number()?)),
+    }
 }
 
 pub fn read_schema<'a>(bytes: &'a [u8], at: usize) -> Result<Parsed<Node<'a>>, Stop>
     ensures { NodeAt a_schema bytes.now at result }
 {
-    let opcode = read_opcode(bytes, at, 10)?;
+    let mut reader = Reader { bytes, at };
+    let value = Node::OfSchema(next_schema(&mut reader)?);
+    Ok(Parsed {
+        value,
+        next: reader.at,
+    })
+}
+
+fn next_group(reader: &mut Reader<'_>) -> Result<Group, Stop>
+    ensures { Reads (MadeAt OfGroup a_group) reader.old reader.new result }
+{
     // Here the number that was read becomes its enum.
-    match opcode.argument {
-        0 => bare(Node::OfSchema(Schema::Any), opcode.next),
-        1 => read_ranged(bytes, opcode.next, Schema::Unsigned),
-        2 => read_ranged(bytes, opcode.next, Schema::Negative),
-        3 => read_ranged(bytes, opcode.next, Schema::ByteLength),
-        4 => read_ranged(bytes, opcode.next, Schema::TextLength),
-        5 => read_literal(bytes, opcode.next),
-        6 => bare(Node::OfSchema(Schema::Choice), opcode.next),
-        7 => bare(Node::OfSchema(Schema::Array), opcode.next),
-        8 => read_numbered(bytes, opcode.next, Schema::Map),
-        9 => read_numbered(bytes, opcode.next, Schema::Tag),
-        _ => read_numbered(bytes, opcode.next, Schema::Rule),
+    match reader.opcode(4)? {
+        0 => Ok(Group::Empty),
+        1 => Ok(Group::One),
+        2 => Ok(Group::Sequence),
+        3 => Ok(Group::FirstOf),
+        _ => {
+            let low = reader.number()?;
+            let high = reader.number()?;
+            Ok(Group::Repeat(low, high))
+        }
     }
 }
 
 pub fn read_group<'a>(bytes: &'a [u8], at: usize) -> Result<Parsed<Node<'a>>, Stop>
     ensures { NodeAt a_group bytes.now at result }
 {
-    let opcode = read_opcode(bytes, at, 4)?;
-    // Here the number that was read becomes its enum.
-    match opcode.argument {
-        0 => bare(Node::OfGroup(Group::Empty), opcode.next),
-        1 => bare(Node::OfGroup(Group::One), opcode.next),
-        2 => bare(Node::OfGroup(Group::Sequence), opcode.next),
-        3 => bare(Node::OfGroup(Group::FirstOf), opcode.next),
-        _ => read_repeat(bytes, opcode.next),
-    }
-}
-
-fn read_repeat<'a>(bytes: &'a [u8], at: usize) -> Result<Parsed<Node<'a>>, Stop>
-    ensures { RestAt a_group 4 bytes.now at result }
-{
-    let range = read_range(bytes, at)?;
-    Ok(range.map(|(low, high)| Node::OfGroup(Group::Repeat(low, high))))
-}
-
-// A field made of the key that follows its opcode.
-fn read_keyed<'a, F: FnOnce(&'a [u8]) -> Field<'a>>(
-    bytes: &'a [u8],
-    at: usize,
-    make: F,
-) -> Result<Parsed<Node<'a>>, Stop>
-    requires { F.IsAlwaysCallable make }
-    ensures { KeyedAt (F.post make) bytes.now at result }
-{
-    // Tried: `map`. No proof is made of a closure that calls `make`, whose result holds the bytes.
-    let Parsed { value: key, next } = read_string(bytes, at)?;
+    let mut reader = Reader { bytes, at };
+    let value = Node::OfGroup(next_group(&mut reader)?);
     Ok(Parsed {
-        value: Node::OfField(make(key)),
-        next,
+        value,
+        next: reader.at,
     })
+}
+
+fn next_field<'a>(reader: &mut Reader<'a>) -> Result<Field<'a>, Stop>
+    ensures { Reads (MadeAt OfField a_field) reader.old reader.new result }
+{
+    // Here the number that was read becomes its enum.
+    match reader.opcode(2)? {
+        0 => Ok(Field::Required(reader.string()?)),
+        1 => Ok(Field::Optional(reader.string()?)),
+        _ => Ok(Field::Others),
+    }
 }
 
 pub fn read_field<'a>(bytes: &'a [u8], at: usize) -> Result<Parsed<Node<'a>>, Stop>
     ensures { NodeAt a_field bytes.now at result }
 {
-    let opcode = read_opcode(bytes, at, 2)?;
-    // Here the number that was read becomes its enum.
-    match opcode.argument {
-        0 => read_keyed(bytes, opcode.next, Field::Required),
-        1 => read_keyed(bytes, opcode.next, Field::Optional),
-        _ => bare(Node::OfField(Field::Others), opcode.next),
-    }
+    let mut reader = Reader { bytes, at };
+    let value = Node::OfField(next_field(&mut reader)?);
+    Ok(Parsed {
+        value,
+        next: reader.at,
+    })
 }

@@ -1,3 +1,4 @@
 pub mod Tokens
 pub mod Grammars
 pub mod Sizes
+pub mod Readers

@@ -1,7 +1,7 @@
 // Tokens read from lent bytes, with the place where there is none.
-ghost use Rattle.std.specs.Prelude.{◌≡◌};
-ghost use Rattle.sequence.specs.Token.{opcode, number};
-ghost use Rattle.sequence.specs.Reading.{NumberAt, StringAt};
+ghost use Rattle.std.specs.Prelude.{◌≡◌, OnErr};
+ghost use Rattle.sequence.specs.Token.{num, opcode, number};
+ghost use Rattle.sequence.specs.Reading.{NumberAt, StringAt, TokenRead, Reads};
 
 use cbor::Major;
 use cbor::reading::{Head, Stop, bytes_end, read_head};
@@ -64,4 +64,40 @@ pub fn read_string(bytes: &[u8], at: usize) -> Result<Parsed<&[u8]>, Stop>
         value: &bytes[head.next..next],
         next,
     })
+}
+
+// Lent bytes, and the place in them where what is read next stands.
+#[derive(Drop)]
+pub struct Reader<'a> {
+    pub bytes: &'a [u8],
+    pub at: usize,
+}
+
+impl<'a> Reader<'a> {
+    pub fn opcode(&mut self, last: u8) -> Result<u64, Stop>
+        ensures told { Reads (TokenRead (opcode last) num) self.old self.new result }
+        ensures kept { OnErr result (self.new ≡ self.old) }
+    {
+        let opcode = read_opcode(self.bytes, self.at, last)?;
+        self.at = opcode.next;
+        Ok(opcode.argument)
+    }
+
+    pub fn number(&mut self) -> Result<u64, Stop>
+        ensures told { Reads (TokenRead number num) self.old self.new result }
+        ensures kept { OnErr result (self.new ≡ self.old) }
+    {
+        let number = read_number(self.bytes, self.at)?;
+        self.at = number.next;
+        Ok(number.argument)
+    }
+
+    pub fn string(&mut self) -> Result<&'a [u8], Stop>
+        ensures told { Reads StringAt self.old self.new result }
+        ensures kept { OnErr result (self.new ≡ self.old) }
+    {
+        let string = read_string(self.bytes, self.at)?;
+        self.at = string.next;
+        Ok(string.value)
+    }
 }

@@ -1,41 +1,41 @@
-use Rattle.std.proofs.Common.{◌≡◌, ◌-◌, Ok, Err, refl, subst, arith}
+use Rattle.std.proofs.Common.{◌≡◌, ◌-◌, Ok, Err, refl, ◌∙◌, subst, arith}
 use Rattle.sequence.proofs.Grammars.{stop_first}
+use Rattle.sequence.proofs.Readers.{stopped}
 use Rattle.request.specs.Grammar.{requests, a_path}
 use Rattle.request.specs.Reading.{PathAt, CountedPathAt, step_of}
 use Rattle.request.proofs.Requests.{completable}
-use Rattle.request.proofs.Places.{handed_on, path_none, path_more, path_stop, counted_path_stops}
+use Rattle.request.proofs.Places.{path_none, path_more, path_stop, counted_path_stops}
 use Rattle.request.proofs.reading.read_path.Goals as goal
 
 pub returns-in_err-count : goal.returns-in_err-count
-returns-in_err-count c =
-    let s = c.in_err-count.field-0.0 in
-    handed_on (CountedPathAt c.args.bytes.now c.args.at) c.from_residual.result s c.from_residual.ensures.1 (λ ss. stop_first requests completable a_path ss c.args.bytes.now c.args.at s c.in_err-count.ensures)
+returns-in_err-count c = stopped CountedPathAt _ _ _ _ c.from_residual.ensures.1 (λ ss. stop_first requests completable a_path ss _ _ _ c.in_err-count.ensures.told)
 
 pub loop-init : goal.loop-init
 loop-init c = record {
+  same = refl;
   after = omega arith;
-  within = c.in_ok-count.ensures.0.1;
-  rest = λ r h. let z : c.in_ok-count.count.argument - 0 ≡ c.in_ok-count.count.argument = omega arith in subst (λ n. PathAt c.args.bytes.now c.in_ok-count.count.next n r) z h;
+  within = rw c.in_ok-count.ensures.told.0 (c.in_ok-count.ensures.told.1.0.1);
+  rest = λ r h. let z : c.in_ok-count.count - 0 ≡ c.in_ok-count.count = omega arith in subst (λ n. PathAt c.number.new.self.bytes.now c.number.new.self.at n r) z h;
 }
 
-pub returns-in_err-next : goal.returns-in_err-next
-returns-in_err-next c =
-    let count = c.in_ok-count.count in
-    let s = c.in_err-next.field-0.0 in
-    handed_on (CountedPathAt c.args.bytes.now c.args.at) c.from_residual-in_err-next.result s c.from_residual-in_err-next.ensures.1 (counted_path_stops c.args.bytes.now c.args.at count.next count.argument s c.in_ok-count.ensures (c.loop.invariant.rest (Err s) (path_stop c.args.bytes.now c.loop.next count.argument c.loop.counter s (omega arith) c.in_err-next.ensures)))
+pub returns-in_err-next_step : goal.returns-in_err-next_step
+returns-in_err-next_step c =
+    let (b, t) = c.in_ok-count.ensures.told in
+    let s = c.in_err-next_step.field-0.0 in
+    stopped CountedPathAt _ _ _ _ c.from_residual-in_err-next_step.ensures.1 (counted_path_stops _ _ _ c.in_ok-count.count s t (rw b at (c.loop.invariant.rest (Err s) (path_stop _ _ _ c.loop.counter s (omega arith) (rw c.loop.invariant.same at c.in_err-next_step.ensures)))))
 
 pub loop-preserved : goal.loop-preserved
 loop-preserved c =
-    let x = c.in_ok-next.field-0 in
-    let (w, t) = c.in_ok-next.ensures in
+    let (b, (w, t)) = rw c.loop.invariant.same at c.in_ok-next_step.ensures in
     record {
+      same = b;
       after = omega arith;
-      within = t.1;
-      rest = λ r h. c.loop.invariant.rest r (path_more c.args.bytes.now c.loop.next x.next c.in_ok-count.count.argument c.loop.counter (step_of x.value) r (omega arith) w t h);
+      within = rw b t.1;
+      rest = λ r h. c.loop.invariant.rest r (path_more _ _ _ _ c.loop.counter (step_of c.in_ok-next_step.field-0) r (omega arith) w t h);
     }
 
 pub returns : goal.returns
 returns c =
-    let count = c.in_ok-count.count in
-    let z : 0 ≡ count.argument - c.loop.counter = omega arith in
-    (count.next, c.in_ok-count.ensures, c.loop.invariant.rest (Ok c.loop.next) (subst (λ n. PathAt c.args.bytes.now c.loop.next n (Ok c.loop.next)) z (path_none c.args.bytes.now c.loop.next c.loop.invariant.within)), refl)
+    let (b, t) = c.in_ok-count.ensures.told in
+    let e = c.loop.invariant.same ∙ b in
+    (e, (c.number.new.self.at, t, rw b at (c.loop.invariant.rest (Ok c.loop.reader.at) (path_none _ _ _ (omega arith) (rw c.loop.invariant.same at c.loop.invariant.within))), rw e refl))
