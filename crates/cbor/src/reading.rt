@@ -1,13 +1,12 @@
 // Heads read from lent bytes, with the place where there is none.
-// The bytes and a place in them are two parameters in every crate: what is told are places of all the bytes, so one value of both would be taken apart and made anew at
-// each call. Each function takes any place; where a clause says that one is among the bytes, a function that takes any has just told it.
+// Bytes, and a place in them: what is told of items are places, which are compared and kept. Who reads one token after another has sequence's Reader, which moves on.
 ghost use Rattle.std.specs.Prelude.{◌≡◌, ◌+◌, ◌/◌, ◌%◌, ◌<◌, ◌≤◌, length, take, drop, slice_index};
 ghost use Rattle.cbor.specs.Encoding.{of_bytes, major_number};
 ghost use Rattle.cbor.specs.Reading.{HeadAt, FormOf, IsWidth, BytesEnd};
 
 use crate::Major;
 
-// The argument of a head, and where what follows the head stands.
+// The argument of a head, and where what follows the head stands. No Parsed of sequence's, which is of tokens: a head's number is its argument, in the RFC's word.
 #[derive(Clone, Copy, Debug, PartialEq, Eq)]
 pub struct Head {
     pub argument: u64,

@@ -57,7 +57,7 @@ fn text_told(heap: Global, asked: &str) -> anyhow::Result<String> {
     }
 }
 
-// Of two byte strings: which comes first, by which index.
+// Of two byte strings: which comes first, by which index. The words are this table's own, and no Display of a library's.
 fn order_told(heap: Global, asked: &str) -> anyhow::Result<String> {
     let (left, right) = asked.split_once(',').context("no two byte strings")?;
     let left = hex::decode(heap, left.trim())?;

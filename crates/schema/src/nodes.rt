@@ -48,10 +48,10 @@ pub enum Node<'a> {
 // What a node may be wanted as.
 #[derive(Clone, Copy, Debug, PartialEq, Eq)]
 pub enum Sort {
-    ARule,
-    ASchema,
-    AGroup,
-    AField,
+    ARule = 0,
+    ASchema = 1,
+    AGroup = 2,
+    AField = 3,
 }
 
 // So many nodes of a sort.
