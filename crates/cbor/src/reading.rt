@@ -1,12 +1,12 @@
 // Heads read from lent bytes, with the place where there is none.
-// Bytes, and a place in them: what is told of items are places, which are compared and kept. Who reads one token after another has sequence's Reader, which moves on.
+// Bytes, and a place in them: what is told of items are places, which are compared and kept. A reader that moves on is for who reads one thing after another.
 ghost use Rattle.std.specs.Prelude.{◌≡◌, ◌+◌, ◌/◌, ◌%◌, ◌<◌, ◌≤◌, length, take, drop, slice_index};
 ghost use Rattle.cbor.specs.Encoding.{of_bytes, major_number};
 ghost use Rattle.cbor.specs.Reading.{HeadAt, FormOf, IsWidth, BytesEnd};
 
 use crate::Major;
 
-// The argument of a head, and where what follows the head stands. No Parsed of sequence's, which is of tokens: a head's number is its argument, in the RFC's word.
+// The argument of a head, and where what follows the head stands. A struct by a name of its own: its number is an argument, in the RFC's word.
 #[derive(Clone, Copy, Debug, PartialEq, Eq)]
 pub struct Head {
     pub argument: u64,
