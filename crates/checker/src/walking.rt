@@ -2,6 +2,7 @@
 //
 // Places stay plain: public functions take any place and hand back plain ends, so a place with its fact in its type would be made and taken
 // apart at each call. Nor are place and frames one struct: the place moves on, and the frames are handed on by &mut.
+// That a u8 counts the frames stands in three clauses: a struct with that fact would be made anew around each &mut that is handed on.
 ghost use Rattle.std.specs.Prelude.{◌≡◌, ◌-◌, ◌<◌, ◌≤◌, [], length, drop, if◌then◌else◌, nat_eq};
 ghost use Rattle.prefixes.specs.Walks.{walk_text, walk_many, walk_pairs, walk as told};
 ghost use Rattle.checker.specs.Ends.{Ends};
