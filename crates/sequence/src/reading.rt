@@ -13,21 +13,6 @@ pub struct Parsed<T> {
     pub next: usize,
 }
 
-impl<T> Parsed<T> {
-    // The same place, with what is made of what was read.
-    pub fn map<U, F: FnOnce(T) -> U>(self, make: F) -> Parsed<U>
-        requires { F.pre make self.value }
-        ensures value { F.post make self.value result.value }
-        ensures next { result.next ≡ self.next }
-    {
-        let Parsed { value, next } = self;
-        Parsed {
-            value: make(value),
-            next,
-        }
-    }
-}
-
 // One of a few: a number up to and with `last`, in one byte.
 pub fn read_opcode(bytes: &[u8], at: usize, last: u8) -> Result<Head, Stop>
     ensures { NumberAt (opcode last) bytes.now at result }
