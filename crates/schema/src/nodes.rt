@@ -62,6 +62,7 @@ pub struct Run {
 }
 
 // A schema made of the two numbers that stand next.
+// Tried: any `T`, for groups too. No generic call is covered that is passed a function whose result names a lifetime and whose arguments do not.
 fn read_ranged<'a, F: FnOnce(u64, u64) -> Schema<'a>>(
     reader: &mut Reader<'a>,
     make: F,
