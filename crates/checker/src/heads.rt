@@ -1,4 +1,4 @@
-// The head of an item, by how deep it stands and how many keys have to come after it.
+// The head of an item, by how deep it stands and how many keys have to come after it. Places stay plain, as in walking.rt.
 ghost use Rattle.std.specs.Prelude.{◌≡◌, ℕ, ◌<◌, true, length, drop, slice_index, IfOk};
 ghost use Rattle.prefixes.specs.Walks.{first_for, walk_head};
 ghost use Rattle.reach.specs.Measured.{Deep};

@@ -8,7 +8,7 @@ use items::comparing::{Comparison, compare};
 use reach::measure;
 
 // From which byte to which one a key stands.
-#[derive(Clone, Copy)]
+#[derive(Clone, Copy, Debug, PartialEq, Eq)]
 pub(crate) struct KeySpan {
     pub(crate) start: usize,
     pub(crate) end: usize,

@@ -6,7 +6,7 @@ ghost use Rattle.items.specs.Skipping.{HeadTold, PartTold, Skips, SkipsItems};
 use cbor::Major;
 use cbor::reading::{bytes_end, read_head};
 
-// A head of any major type, and where what follows it stands.
+// A head of any major type, and where what follows it stands; its number is an argument, as a Head's is.
 #[derive(Clone, Copy, Debug, PartialEq, Eq)]
 pub struct ItemHead {
     pub major: Major,

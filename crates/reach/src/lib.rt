@@ -26,7 +26,7 @@ pub struct Measurement {
     pub after: u64,
 }
 
-// Where a part of an item ends, and how far it reaches.
+// Where a part of an item ends, and how far it reaches. No Measurement: how many come after a part is not asked.
 #[derive(Clone, Copy, Debug, PartialEq, Eq)]
 struct Extent {
     end: usize,
@@ -73,7 +73,7 @@ fn measure_bytes(bytes: &[u8], at: usize, size: u64) -> Option<Extent>
     })
 }
 
-// The largest first byte of a character, with so many bytes of the text left.
+// The largest first byte of a character, with so many bytes of the text left: items' char_size the other way round.
 fn first_top(left: u64) -> u8
     ensures { result ≡ top_of_first left }
 {

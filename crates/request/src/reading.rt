@@ -29,7 +29,7 @@ pub enum Request<'a> {
     Fit(&'a [u8], u64, &'a [u8]),
 }
 
-// The kinds of steps, by the numbers that they are written with.
+// The kinds of steps, by the numbers that they are written with, by `as`.
 #[derive(Clone, Copy, Debug, PartialEq, Eq)]
 pub(crate) enum StepKind {
     Index = 0,
@@ -37,7 +37,7 @@ pub(crate) enum StepKind {
     Content = 2,
 }
 
-// The kinds of requests, by the numbers that they are written with.
+// The kinds of requests, by the numbers that they are written with, by `as`.
 #[derive(Clone, Copy, Debug, PartialEq, Eq)]
 pub(crate) enum Kind {
     Check = 0,
@@ -54,7 +54,7 @@ pub enum Extent {
     Wrong(usize),
 }
 
-// The three kinds of something, each by its number.
+// The three kinds of something, each by its number. No TryFrom: no number above 2 is read, so that its error would never be met.
 trait Numbered: Sized {
     ghost number_of: { Self → ℕ };
 

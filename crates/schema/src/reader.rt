@@ -10,7 +10,7 @@ use crate::reading::{MOST_PARTS, NoRules, TABLE};
 use crate::sorts::read_node;
 use crate::table::write_row;
 
-// The bytes and the table, and how far reading has come: to which byte, after how many parts and nodes.
+// The bytes and the table, and how far reading has come: to which byte, after how many parts and nodes. No Reader of sequence's in it: nodes are read at any place.
 // What `advance` requires is no ghost field: with one, `read_all` doesn't learn what the table ends as, which nobody asks of a Stack's runs.
 #[derive(Drop)]
 pub(crate) struct Reader<'b, 't> {

@@ -15,7 +15,7 @@ use std::fmt;
 // Rules of more parts are not looked at.
 pub const MOST_PARTS: usize = 8192;
 
-// How many numbers the stack takes: two for each run, and one run more than parts.
+// How many numbers the stack takes: two for each run, of which there is one more than parts, and room for one to come.
 pub const STACK: usize = 16388;
 
 // How many numbers the table takes: a row for each node, of which there are no more than parts.

@@ -58,6 +58,7 @@ pub struct Reader<'a> {
     pub at: usize,
 }
 
+// That a stop leaves it where it was is a clause of each and no part of Reads: who reads several may stop further on.
 impl<'a> Reader<'a> {
     pub fn opcode(&mut self, last: u8) -> Result<u64, Stop>
         ensures told { Reads (TokenRead (opcode last) num) self.old self.new result }

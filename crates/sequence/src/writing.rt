@@ -1,5 +1,5 @@
-// Tokens written into lent bytes. The place stands beside the bytes: one function alone writes more than two things one after the other, and in each other one a writer that
-// moves on would be made and taken apart.
+// Tokens written into lent bytes. The place stands beside the bytes, in each crate that writes: two functions alone write more than two things one after the other, and in each
+// other one a writer that moves on would be made and taken apart.
 ghost use Rattle.std.specs.Prelude.{◌≡◌};
 ghost use Rattle.cbor.specs.Writing.{Writes};
 ghost use Rattle.sequence.specs.Token.{token_bytes, spell};
