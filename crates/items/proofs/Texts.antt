@@ -7,7 +7,7 @@ use Rattle.cbor.specs.Prefix.{Begins}
 use Rattle.cbor.specs.Utf8.{Range, tail, second, leads, tails, first_in, utf8_after, TextOf}
 use Rattle.cbor.proofs.Places.{part_more, start_of, at_first}
 use Rattle.cbor.proofs.Utf8.{first_in_parts, Fair, tails_fair}
-use Rattle.items.specs.Text.{Runs, part, ByteIn, TailsTold, CharTold, FirstWrong, Blocks}
+use Rattle.items.specs.Text.{Runs, part, ByteTold, TailsTold, CharTold, FirstWrong, Blocks}
 
 -- RUNS
 
@@ -139,23 +139,27 @@ tails_follow a = elim (cases_lt a 128) [
   ]
 ]
 
--- the bytes up to a place are in their ranges, and the next one has to be in this one
-abbrev pub Pending : List Range → List ℕ → ℕ → Range → ℕ → ℕ → Type 0
-Pending all bs at r place end = (place ≤ length bs) × ((rs : List Range) × Runs all (part bs at place) rs × Follows r rs × (place + length rs ≡ end))
+byte_runs : (r : Range) (rs : List Range) (bs : List ℕ) (at end : ℕ) → ByteTold r bs at (Ok end) → Runs (r ∷ rs) (part bs at end) rs
+unfolding Runs
+byte_runs r rs bs at end (e, (l, h, k)) = subst (λ n. Runs (r ∷ rs) (part bs at n) rs) (sym e) (subst (λ w. Runs (r ∷ rs) w rs) (sym (part_one bs at l)) (h, k, refl))
 
-pub pending_start : (a : ℕ) (bs : List ℕ) (at end : ℕ) (r : Range) → at ≤ length bs → r ≡ second a → end ≡ at + length (tails a) → Pending (tails a) bs at r at end
-pending_start a bs at end r l e f = (l, (tails a, stays bs at (tails a), rw e (tails_follow a), sym f))
+-- a byte in its range, and then those after it
+pub tails_next : (r : Range) (rs : List Range) (bs : List ℕ) (at mid : ℕ) (t : Result ℕ ℕ) → ByteTold r bs at (Ok mid) → TailsTold rs bs mid t → TailsTold (r ∷ rs) bs at t
+tails_next r rs bs at mid (Ok end) b (e, l, p) = (omega arith, l, part_runs bs at mid end (r ∷ rs) rs [] (omega arith) (omega arith) (byte_runs r rs bs at mid b) p)
+tails_next r rs bs at mid (Err p) b ((h, k), (s, later, q, e, f)) =
+    ((omega arith, k), (s, later, part_runs bs at mid p (r ∷ rs) rs (s ∷ later) (omega arith) h (byte_runs r rs bs at mid b) q, omega arith, f))
 
-module _ (all : List Range) (bs : List ℕ) (at : ℕ) (r : Range) (place end : ℕ) (after : at ≤ place) where
-  pub pending_more : place < end → Pending all bs at r place end → ByteIn r bs place true → Pending all bs at tail (place + 1) end
-  unfolding Runs
-  pending_more h (l, ([], p, f, e)) b = absurd (omega arith)
-  pending_more h (l, (q ∷ rs, p, (g, f), e)) (i, a, b) =
-      (omega arith, (rs, part_runs bs at place (place + 1) all (q ∷ rs) rs after (omega arith) p (rw (part_one bs place i, g) (a, b, refl)), f, omega arith))
+-- or none in it
+pub tails_stop : (r : Range) (rs : List Range) (bs : List ℕ) (at p : ℕ) → at ≤ length bs → ByteTold r bs at (Err p) → TailsTold (r ∷ rs) bs at (Err p)
+tails_stop r rs bs at p l (e, f) =
+    subst (λ n. TailsTold (r ∷ rs) bs at (Err n)) (sym e) ((omega arith, l), (r, rs, stays bs at (r ∷ rs), omega arith, f))
 
-  pub pending_stop : place < end → Pending all bs at r place end → end ≡ at + length all → ByteIn r bs place false → TailsTold all bs at (Err place)
-  pending_stop h (l, ([], p, f, e)) t n = absurd (omega arith)
-  pending_stop h (l, (q ∷ rs, p, (g, f), e)) t n = ((after, l), (q, rs, p, omega arith, rw g n))
+pub tails_last : (r : Range) (bs : List ℕ) (at : ℕ) (t : Result ℕ ℕ) → at ≤ length bs → ByteTold r bs at t → TailsTold (r ∷ []) bs at t
+tails_last r bs at (Ok end) l b = tails_next r [] bs at end (Ok end) b (omega arith, (omega arith), stays bs end [])
+tails_last r bs at (Err p) l b = tails_stop r [] bs at p l b
+
+pub tails_none : (a : ℕ) (bs : List ℕ) (at : ℕ) → a < 128 → at ≤ length bs → TailsTold (tails a) bs at (Ok at)
+tails_none a bs at h l = rw (lt-ltb a 128 h) (omega arith, l, stays bs at [])
 
 -- CHARACTERS
 

@@ -27,6 +27,11 @@ abbrev pub ByteIn : Range → List ℕ → ℕ → Bool → Type 0
 ByteIn r bs at true = (at < length bs) × (r.0 ≤ slice_index bs at) × (slice_index bs at ≤ r.1)
 ByteIn r bs at false = at < length bs → r.0 ≤ slice_index bs at → slice_index bs at ≤ r.1 → ⊥
 
+-- the place after that byte, or its own
+abbrev pub ByteTold : Range → List ℕ → ℕ → Result ℕ ℕ → Type 0
+ByteTold r bs at (Ok end) = (end ≡ at + 1) × ByteIn r bs at true
+ByteTold r bs at (Err p) = (p ≡ at) × ByteIn r bs at false
+
 -- a byte in each of some ranges, or the place of the first that is missing or not in its range
 abbrev pub TailsTold : List Range → List ℕ → ℕ → Result ℕ ℕ → Type 0
 TailsTold rs bs at (Ok end) = (end ≡ at + length rs) × (end ≤ length bs) × Runs rs (part bs at end) []
@@ -41,3 +46,7 @@ Blocks left (r ∷ rs) b = r.0 ≤ b → b ≤ r.1 → ⊥
 abbrev pub CharTold : ℕ → List ℕ → ℕ → Result ℕ ℕ → Type 0
 CharTold left bs at (Ok end) = (at < end) × (end ≤ length bs) × (end - at ≤ left) × Runs [] (part bs at end) []
 CharTold left bs at (Err p) = Within bs at p × ((rs : List Range) × Runs [] (part bs at p) rs × (p - at + length rs ≤ left) × (0 < left → p - at < left) × (p < length bs → Blocks (left - (p - at)) rs (slice_index bs p)))
+
+-- bytes below 128, each a character
+abbrev pub PlainTo : List ℕ → ℕ → ℕ → ℕ → Type 0
+PlainTo bs from to end = (from ≤ end) × (end ≤ to) × Runs [] (part bs from end) []
