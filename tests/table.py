@@ -20,9 +20,14 @@ def print_case(asked, told):
     print(asked, "=>", told)
 
 
-def print_cases(case):
+def generator():
+    """What is at random, by the argument SEED."""
+    return random.Random(int(sys.argv[2]) if len(sys.argv) > 2 else 1)
+
+
+def print_cases(case, rng=None):
     """Prints as many cases at random as the arguments COUNT [SEED] say."""
     count = int(sys.argv[1])
-    rng = random.Random(int(sys.argv[2]) if len(sys.argv) > 2 else 1)
+    rng = rng or generator()
     for _ in range(count):
         print_case(*case(rng))

@@ -15,7 +15,7 @@ use std::alloc::Global;
 
 fn main(rt: HostRuntime) -> anyhow::Result<()> {
     let heap = rt.alloc();
-    tables::go_through(&rt, |asked| told(heap, asked))
+    tables::go_through(&rt, rt.stdin(), |asked| told(heap, asked))
 }
 
 fn told(heap: Global, asked: &str) -> anyhow::Result<String> {

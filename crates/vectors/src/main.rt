@@ -5,8 +5,12 @@
 
 #![tactic(auto)]
 
+ghost use Rattle.std.specs.Prelude.{◌≡◌, None, if◌then◌else◌};
+ghost use Rattle.std.specs.Char.{is_ascii_uppercase};
+ghost use Rattle.hex.specs.Hex.{hex_digit_value};
+
 use answer::{LENT, answer};
-use anyhow::{Context, anyhow, ensure};
+use anyhow::{Context, anyhow, bail, ensure};
 use schema::nodes::Node;
 use schema::reading::{NoRules, STACK, read_rules};
 use schema::table::node_at;
@@ -17,7 +21,11 @@ use std::alloc::Global;
 fn main(rt: HostRuntime) -> anyhow::Result<()> {
     let heap = rt.alloc();
     let mut lent = vec![in heap; 0u64; LENT]?;
-    tables::go_through(&rt, |asked| told(heap, asked, lent.as_mut_slice()))
+    tables::go_through(
+        &rt,
+        rt.stdin(),
+        |asked| told(heap, asked, lent.as_mut_slice()),
+    )
 }
 
 fn told(heap: Global, asked: &str, lent: &mut [u64]) -> anyhow::Result<String> {
@@ -27,17 +35,32 @@ fn told(heap: Global, asked: &str, lent: &mut [u64]) -> anyhow::Result<String> {
     }
 }
 
-// The bytes in hex digits, between which spaces may stand. The library also takes capital letters, of which a table has none.
+// The bytes in hex digits, between which spaces may stand. The library takes none, and the line without them would be a copy.
 fn bytes_of(heap: Global, digits: &str) -> anyhow::Result<Vec<u8>> {
-    let digits = digits.replace(heap, ' ', "")?;
-    ensure!(
-        digits
-            .bytes()
-            .all(|b| matches!(b, b'0'..=b'9' | b'a'..=b'f')),
-        "not a hex digit"
-    );
-    ensure!(digits.len() % 2 == 0, "half a byte");
-    Ok(hex::decode(heap, digits)?)
+    let mut bytes = Vec::new(heap);
+    let mut high = None;
+    for byte in digits.bytes().filter(|byte| *byte != b' ') {
+        let Some(value) = digit(byte) else {
+            bail!("not a hex digit");
+        };
+        match high.take() {
+            None => high = Some(value),
+            Some(high) => bytes.push(high << 4 | value)?,
+        }
+    }
+    ensure!(high.is_none(), "half a byte");
+    Ok(bytes)
+}
+
+// A digit's value. The library also takes capital letters, of which a table has none.
+fn digit(byte: u8) -> Option<u8>
+    ensures { result ≡ if is_ascii_uppercase byte then None else hex_digit_value byte }
+{
+    match byte {
+        b'0'..=b'9' => Some(byte - b'0'),
+        b'a'..=b'f' => Some(byte - b'a' + 10),
+        _ => None,
+    }
 }
 
 fn answer_told(heap: Global, bytes: &[u8], lent: &mut [u64]) -> anyhow::Result<String> {
