@@ -1,15 +1,15 @@
 -- Keys and values one after another, at places.
 use Rattle.std.proofs.Common.{◌≡◌, ℕ, slice_range, suc, ◌+◌, ◌-◌, ◌<◌, ◌≤◌, true, false, Bool, List, [], ◌∷◌, length, get_or, drop, Some, None, Ok, Err, Option, Result, sym, refl, ap, ◌∙◌, subst, inl, inr, arith}
 use Rattle.std.specs.Option.{unwrap_or}
-use Rattle.std.specs.Ordering.{nat_cmp, is_lt, is_some_and}
-use Rattle.std.specs.Cmp.Lexicographic.{slice_partial_cmp}
-use Rattle.std.proofs.lemmas.Cmp.{same_from_slice_cmp_tested}
-use Rattle.std.proofs.lemmas.Bool.Decides.{nat_tests}
 use Rattle.std.proofs.lemmas.List.{length-drop}
 use Rattle.std.proofs.lemmas.Bool.{cases_lt}
 use Rattle.cbor.specs.Encoding.{all_bytes}
 use Rattle.cbor.specs.Order.{before}
 use Rattle.cbor.proofs.Numbers.{bytes_drop}
+use Rattle.cbor.proofs.Order.{before_irreflexive, before_transitive}
+use Rattle.items.specs.Comparing.{Compared}
+use Rattle.items.specs.declared.comparing.Comparison.{Comparison}
+use Rattle.items.specs.declared.comparing.Comparison.TheVariants.{Before, Same, After}
 use Rattle.cbor.proofs.Places.{part_rest, part_length}
 use Rattle.prefixes.specs.Words.{Reach, Keyed, joined}
 use Rattle.prefixes.specs.Shapes.{ItemAt}
@@ -32,10 +32,15 @@ use Rattle.checker.proofs.Odds.{OddTold, odd_placed, apart_larger, odd_there}
 
 -- COMPARING WHOLE KEYS
 
--- the library's order of slices is the order of keys
-pub before_by_order : (xs ys : List ℕ) (r : Bool) → r ≡ is_some_and is_lt (slice_partial_cmp (λ x y. Some (nat_cmp x y)) xs ys) → r ≡ before xs ys
-unfolding before
-before_by_order = same_from_slice_cmp_tested nat_cmp is_lt before refl (λ _ _. refl) (λ _ _. refl) (λ x y xs ys o h. grind (arith, nat_tests))
+false_from : (b : Bool) → (b ≡ true → ⊥) → false ≡ b
+false_from true h = absurd (h refl)
+false_from false h = refl
+
+-- a string that does not compare as the earlier one is not before the other
+pub not_before : (xs ys : List ℕ) (r : Comparison) → Compared xs ys r → ((i : ℕ) → r ≡ Before i → ⊥) → false ≡ before xs ys
+not_before xs ys (Before i) c h = absurd (h i refl)
+not_before xs ys Same c h = false_from (before xs ys) (λ e. before_irreflexive xs (subst (λ z. before xs z ≡ true) (sym c) e))
+not_before xs ys (After i) c h = false_from (before xs ys) (λ e. before_irreflexive xs (before_transitive xs ys xs e c.1))
 
 -- REFUSING A KEY
 

@@ -57,7 +57,9 @@ impl NextKey<'_> {
         let Some(last) = self.last else {
             return true;
         };
-        self.bytes[last.start..last.end] < self.bytes[self.at..end]
+        let order = compare(&self.bytes[last.start..last.end], &self.bytes[self.at..end]);
+        // Not by the order of slices, which takes two thirds more time where keys have a long beginning in common.
+        matches!(order, Comparison::Before(_))
     }
 
     // The first place at which it is at odds with the last one.

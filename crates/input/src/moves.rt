@@ -19,7 +19,8 @@ impl Window {
 
     // The bytes that are read and not yet taken.
     pub fn held(&self) -> &[u8]
-        ensures { result.now ≡ self.now }
+        ensures held { result.now ≡ self.now }
+        ensures bounded { length self.now ≤ most }
     {
         &self.bytes[self.start..self.end]
     }

@@ -59,7 +59,8 @@ trait Numbered: Sized {
     ghost number_of: { Self → ℕ };
 
     fn of_number(number: u64) -> Self
-        ensures { number ≤ 2 → number_of result ≡ number };
+        requires { number ≤ 2 }
+        ensures { number_of result ≡ number };
 }
 
 impl Numbered for StepKind {
@@ -69,7 +70,8 @@ impl Numbered for StepKind {
         match number {
             0 => StepKind::Index,
             1 => StepKind::Key,
-            _ => StepKind::Content,
+            2 => StepKind::Content,
+            _ => unreachable(),
         }
     }
 }
@@ -81,7 +83,8 @@ impl Numbered for Kind {
         match number {
             0 => Kind::Check,
             1 => Kind::Find,
-            _ => Kind::Fit,
+            2 => Kind::Fit,
+            _ => unreachable(),
         }
     }
 }

@@ -1,7 +1,8 @@
 -- The rows of the table.
-use Rattle.std.proofs.Common.{◌≡◌, ℕ, zero, suc, ◌+◌, ◌-◌, ◌*◌, ◌<◌, ◌≤◌, List, [], ◌∷◌, ◌++◌, length, get_or, take, drop, sym, refl, ap, ◌∙◌, subst, append_assoc, add-one, arith, Bor}
+use Rattle.std.proofs.Common.{◌≡◌, ℕ, zero, suc, ◌+◌, ◌-◌, ◌*◌, ◌<◌, ◌≤◌, List, [], ◌∷◌, ◌++◌, length, get_or, take, drop, set, sym, refl, ap, ◌∙◌, subst, append_assoc, add-one, arith, Bor}
 use Rattle.std.specs.Simd.{first_chunks}
-use Rattle.std.proofs.lemmas.List.{get_or-take, get_or-drop, get_or_append_left, get_or-append-add, length-take-le, append-nil}
+use Rattle.std.proofs.lemmas.Grind.{take-set_at}
+use Rattle.std.proofs.lemmas.List.{length-set, get_or-take, get_or-drop, get_or_append_left, get_or-append-add, length-take-le, append-nil}
 use Rattle.cbor.specs.Encoding.{head}
 use Rattle.cbor.proofs.Places.{part_length, part_split}
 use Rattle.sequence.specs.Token.{num, str, token_bytes, spell}
@@ -39,6 +40,20 @@ row_same bs row table n h =
 rows_more : (bs table : List ℕ) (n : ℕ) → rows bs table (n + 1) ≡ rows bs table n ++ row_at bs table n
 unfolding rows
 rows_more bs table n = ap (rows bs table) (add-one n)
+
+-- four numbers written one after the other
+pub four_set : (old : List ℕ) (i a b c d : ℕ) → i + 4 ≤ length old → take (i + 4) (set (set (set (set old i a) (i + 1) b) (i + 2) c) (i + 3) d) ≡ take i old ++ a ∷ b ∷ c ∷ d ∷ []
+four_set old i a b c d h =
+    let one = set old i a in
+    let two = set one (i + 1) b in
+    let three = set two (i + 2) c in
+    let l : length one ≡ length old = length-set old i a in
+    let m : length two ≡ length one = length-set one (i + 1) b in
+    let k : length three ≡ length two = length-set two (i + 2) c in
+    take-set_at three (i + 3) (i + 4) d (omega arith) (omega arith)
+    ∙ ap (λ t. t ++ d ∷ []) (take-set_at two (i + 2) (i + 3) c (omega arith) (omega arith) ∙ ap (λ t. t ++ c ∷ []) (take-set_at one (i + 1) (i + 2) b (omega arith) (omega arith) ∙ ap (λ t. t ++ b ∷ []) (take-set_at old i (i + 1) a refl (omega arith))))
+    ∙ ap (λ t. t ++ d ∷ []) (ap (λ t. t ++ c ∷ []) (append_assoc (take i old) (a ∷ []) (b ∷ [])) ∙ append_assoc (take i old) (a ∷ b ∷ []) (c ∷ []))
+    ∙ append_assoc (take i old) (a ∷ b ∷ c ∷ []) (d ∷ [])
 
 pub row_written : (old new row : List ℕ) (n : ℕ) (x : Node) (next : ℕ) (y : Entry) → 4 * n + 4 ≤ length old → take (4 * n + 4) new ≡ take (4 * n) old ++ row → EntryOf x y → RowOf y next row → RowWritten old n x next new
 row_written old new row n x next y h e is says bs at q =

@@ -36,14 +36,16 @@ fn row_of(entry: Entry<'_>, next: usize) -> [u64; ROW]
     }
 }
 
-#[tactic(auto, using(crate::proofs::Rows::row_written, std::proofs::lemmas::Slice::overwrites))]
 pub(crate) fn write_row(table: &mut [u64], index: usize, node: Node<'_>, next: usize)
     requires { ROW * index + ROW ≤ length table.old }
     ensures { RowWritten table.old index node.entry next table.new }
 {
-    let row = row_of(Entry::from(node), next);
-    // Tried: `as_chunks_mut`. Its contract says nothing of what the table ends as.
-    table[ROW * index..ROW * index + ROW].copy_from_slice(&row);
+    let [opcode, form, first, second] = row_of(Entry::from(node), next);
+    // One by one: copied from the array, a row is written to memory twice.
+    table[ROW * index] = opcode;
+    table[ROW * index + 1] = form;
+    table[ROW * index + 2] = first;
+    table[ROW * index + 3] = second;
 }
 
 // As much of a part as there is.

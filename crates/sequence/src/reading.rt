@@ -35,6 +35,7 @@ pub fn read_number(bytes: &[u8], at: usize) -> Result<Head, Stop>
     read_head(bytes, at, Major::Unsigned)
 }
 
+#[inline(always)]
 pub fn read_string(bytes: &[u8], at: usize) -> Result<Parsed<&[u8]>, Stop>
     ensures { StringAt bytes.now at result }
 {
@@ -60,6 +61,7 @@ pub struct Reader<'a> {
 
 // That a stop leaves it where it was is a clause of each and no part of Reads: who reads several may stop further on.
 impl<'a> Reader<'a> {
+    #[inline(always)]
     pub fn opcode(&mut self, last: u8) -> Result<u64, Stop>
         ensures told { Reads (TokenRead (opcode last) num) self.old self.new result }
         ensures kept { OnErr result (self.new ≡ self.old) }
@@ -69,6 +71,7 @@ impl<'a> Reader<'a> {
         Ok(opcode.argument)
     }
 
+    #[inline(always)]
     pub fn number(&mut self) -> Result<u64, Stop>
         ensures told { Reads (TokenRead number num) self.old self.new result }
         ensures kept { OnErr result (self.new ≡ self.old) }
@@ -78,6 +81,7 @@ impl<'a> Reader<'a> {
         Ok(number.argument)
     }
 
+    #[inline(always)]
     pub fn string(&mut self) -> Result<&'a [u8], Stop>
         ensures told { Reads StringAt self.old self.new result }
         ensures kept { OnErr result (self.new ≡ self.old) }

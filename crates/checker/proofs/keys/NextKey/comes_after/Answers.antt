@@ -1,5 +1,5 @@
-use Rattle.checker.proofs.Entries.{before_by_order}
+use Rattle.checker.proofs.Entries.{not_before}
 use Rattle.checker.proofs.keys.NextKey.comes_after.Goals as goal
 
-pub returns : goal.returns
-returns c = rw c.in-Some.is (before_by_order _ _ c.lt.result c.lt.ensures)
+pub returns-in_default-matches : goal.returns-in_default-matches
+returns-in_default-matches c = rw c.in-Some.is (not_before _ _ c.compare-order.result c.compare-order.ensures c.in_default-matches.not-Before)
