@@ -52,12 +52,14 @@ fn number(bytes: &[u8]) -> u64
     requires { IsWidth (length bytes.now) }
     ensures { result ≡ of_bytes bytes.now }
 {
-    match *bytes {
-        [a] => u64::from(a),
-        [a, b] => u64::from(u16::from_be_bytes([a, b])),
-        [a, b, c, d] => u64::from(u32::from_be_bytes([a, b, c, d])),
-        [a, b, c, d, e, f, g, h] => u64::from_be_bytes([a, b, c, d, e, f, g, h]),
-        _ => unreachable(),
+    // By the length, and no patterns of slices: they become a jump by a table in `long_head`, which is slow where sizes are mixed.
+    match bytes.len() {
+        1 => u64::from(bytes[0]),
+        2 => u64::from(u16::from_be_bytes([bytes[0], bytes[1]])),
+        4 => u64::from(u32::from_be_bytes([bytes[0], bytes[1], bytes[2], bytes[3]])),
+        _ => u64::from_be_bytes([
+            bytes[0], bytes[1], bytes[2], bytes[3], bytes[4], bytes[5], bytes[6], bytes[7],
+        ]),
     }
 }
 

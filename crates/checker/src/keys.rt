@@ -89,7 +89,11 @@ impl NextKey<'_> {
     fn misplaced(self) -> usize
         ensures { Misplaced self.entry.bytes.now self.entry.depth self.entry.last self.entry.at result }
     {
-        self.odd().unwrap_or(self.at)
+        match self.odd() {
+            Some(odd) => odd,
+            // never so: a whole key that does not come after the last one is somewhere at odds with it
+            None => self.at,
+        }
     }
 
     // Where it ends if it comes after the last one, by what is told of it whatever the last one is.
