@@ -4,7 +4,7 @@ use Rattle.sequence.proofs.Tokens.{no_opcode}
 use Rattle.sequence.proofs.reading.read_opcode.Goals as goal
 
 pub returns-in_default : goal.returns-in_default
-returns-in_default c = no_opcode c.args.last c.args.bytes.now c.args.at (λ h k l. omega (arith, c.min.ensures, c.if-opcode-min.false, c.in-Some.ensures.lookup.3.1 0))
+returns-in_default c = no_opcode c.args.last c.args.bytes.now c.args.at (λ h k l. omega (arith, c.in-Some.ensures.lookup.3.1 0))
 
 pub returns-in_default-2 : goal.returns-in_default-2
 returns-in_default-2 c =
