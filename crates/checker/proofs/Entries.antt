@@ -74,9 +74,9 @@ module _ (bs : List ℕ) (d : ℕ) (last : Option KeySpan) (at : ℕ) where
     odd_with_some j o = (omega arith, λ n ls l. odds_are n ls l ∙ (told (Some j) o).0 ∙ ap (λ i. i ∷ []) (let z : j ≡ at + j - at = omega arith in z))
 
   -- there is such a place where a whole key does not come after the last one
-  pub misplaced_by : (r : Option ℕ) → OddWith bs d last at r → Misplaced bs d last at (unwrap_or r at)
-  misplaced_by (Some p) (h, o) n end i ls t l w e a = rw (next_is ls (drop at bs) t, o (suc n) ls l, e.2) (h, refl)
-  misplaced_by None o n end i ls t l w e a = absurd (none last ls l a (o (suc n) ls l))
+  pub misplaced_by : (r : Option ℕ) (p : ℕ) → p ≡ unwrap_or r at → OddWith bs d last at r → Misplaced bs d last at p
+  misplaced_by (Some q) p z (h, o) n end i ls t l w e a = rw (z, next_is ls (drop at bs) t, o (suc n) ls l, e.2) (h, refl)
+  misplaced_by None p z o n end i ls t l w e a = absurd (none last ls l a (o (suc n) ls l))
     where
       none : (last : Option KeySpan) (ls : List (List ℕ × ℕ)) → LastAt bs d (suc n) last ls → AfterLast bs last at end false → odds ls (drop at bs) ≡ [] → ⊥
       none None ls l a o = (cc)
